@@ -25,7 +25,7 @@ use Rattle.cel_types.specs.SourceLaws.{kinds_in}
 use Rattle.catalogue.specs.Parts.{Parts, IsAccepted, judged_of, queries_by}
 use Rattle.catalogue.specs.Chained.{AreChained, kinds_of_each}
 use Rattle.catalogue.specs.Judgement.{program_of, query_at}
-use Rattle.catalogue.specs.Tables.{HasPlaces}
+use Rattle.work_order.specs.Places.{HasPlaces}
 use Rattle.catalogue.specs.Typing.{Publish, none, next, published_by}
 use Rattle.catalogue.proofs.FewLemmas.{numbers_left}
 use Rattle.catalogue.proofs.HeldLemmas.{order_numbers, place_is, place_small, queries_long, sizes, stream_at}

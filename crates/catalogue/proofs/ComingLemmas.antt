@@ -59,7 +59,7 @@ use Rattle.catalogue.specs.Typing.{published_by}
 use Rattle.catalogue.proofs.ChangeLemmas.{one-is, programs_keep_kinds, programs_take_queries}
 use Rattle.catalogue.proofs.FittingLemmas.{grow_by, reads_below, reads_there}
 use Rattle.catalogue.proofs.LoadedLemmas.{range_on}
-use Rattle.catalogue.proofs.OrderedLemmas.{at_end, ends_more, map_range, numbers_more, places_more, position_at}
+use Rattle.catalogue.proofs.OrderedLemmas.{at_end, ends_more, map_range, numbers_more, position_at}
 use Rattle.catalogue.proofs.PermutationLemmas.{to_range}
 use Rattle.catalogue.proofs.StandLemmas.{Contains-map}
 use Rattle.catalogue.proofs.StandingLemmas.{queries_many}
@@ -454,12 +454,11 @@ module _ (c : Catalogued) (stands : StandsInOrder c) (query : Coming) (fit : IsF
   order_many : length tells.growth.order ≡ length (split_order e n (n + 1))
   order_many = omega (arith, ap length order_is, length-append c.layout.order tells.growth.order, length-append c.layout.order (split_order e n (n + 1)))
 
-  -- and is held with its places, lines and shares
-  pub come_held : (places : List ℕ) (lines : List Line) (shares : Shares) (reads new_reads : List ℕ) → IsHeld c places lines shares reads → AddsReads (ex_of query.expr) reads new_reads
-      → IsHeld come_of (places ++ m ∷ []) (lines ++ tells.lines) (with_share shares (record { lines = length tells.lines; streams = length tells.growth.order })) new_reads
-  come_held places lines shares reads new_reads held adds = record {
+  -- and is held with its lines and shares
+  pub come_held : (lines : List Line) (shares : Shares) (reads new_reads : List ℕ) → IsHeld c lines shares reads → AddsReads (ex_of query.expr) reads new_reads
+      → IsHeld come_of (lines ++ tells.lines) (with_share shares (record { lines = length tells.lines; streams = length tells.growth.order })) new_reads
+  come_held lines shares reads new_reads held adds = record {
     stands = come_stands;
-    placed = places_more c.order stands.numbered places held.placed;
     lines_are = (λ i. held.lines_are i ++ lines_are i) ∙ sym chained ∙ ap lines_of (sym program_is);
     shared =
         (λ i. with_share (held.shared i) (record { lines = length (lines_are i); streams = order_many i }))

@@ -14,7 +14,7 @@ use Rattle.catalogue.specs.Catalogued.{Catalogued, query_in}
 use Rattle.catalogue.specs.Leaving.{HasName, HasNoQuery, IsFirstNamed, place_of}
 use Rattle.catalogue.specs.Standing.{StandsInOrder}
 use Rattle.catalogue.proofs.LeftProgramLemmas.{at_within, name_there, other_stream}
-use Rattle.catalogue.proofs.MovedLemmas.{place_back}
+use Rattle.work_order.proofs.NumbersLemmas.{place_back}
 use Rattle.catalogue.proofs.StandingLemmas.{item_there, name_at, publication_small, stream_at, stream_known}
 
 none_later : (o : Option ℕ) → option_map suc o ≡ None → o ≡ None

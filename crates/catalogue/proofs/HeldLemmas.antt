@@ -1,8 +1,7 @@
 -- The places of queries in the order of work, and what stands there.
-use Rattle.std.proofs.Common.{◌≡◌, ◌≢◌, ◌∙◌, ℕ, ◌+◌, ◌<◌, List, [], length, get_or, set, map, sym, ap, subst, inl, inr, arith, length-set, get_or-set_same, get_or-set_other}
-use Rattle.std.specs.Prelude.{◌==◌, ◌↔◌, AllPairs, Contains, None}
+use Rattle.std.proofs.Common.{◌≡◌, ◌∙◌, ℕ, ◌+◌, ◌<◌, List, [], length, get_or, map, sym, ap, subst, arith}
+use Rattle.std.specs.Prelude.{◌==◌, ◌↔◌, Contains, None}
 use Rattle.std.specs.List.{position_or_len}
-use Rattle.std.proofs.lemmas.Bool.{cases_eq}
 use Rattle.std.proofs.lemmas.List.{get_or_default, length-map}
 use Rattle.std.proofs.lemmas.List.Sums.{position_or_len_is}
 use Rattle.semantics.specs.Expressions.{Read}
@@ -13,30 +12,10 @@ use Rattle.resubscribe.proofs.OrderLemmas.{HasEachOnce-order}
 use Rattle.catalogue.specs.Parts.{Parts, IsAccepted, judged_of, queries_by}
 use Rattle.catalogue.specs.Judgement.{query_at}
 use Rattle.catalogue.specs.Reading.{reads_in}
-use Rattle.catalogue.specs.Standing.{AreNumbers}
-use Rattle.catalogue.specs.Tables.{HasFirstPlaces, HasPlaces}
+use Rattle.work_order.specs.Numbers.{AreNumbers}
+use Rattle.work_order.specs.Places.{HasPlaces}
 use Rattle.catalogue.proofs.CountLemmas.{order_count, statement_count}
 use Rattle.catalogue.proofs.PartLemmas.{published_count, stream_by}
-
--- one more place is put
-pub HasFirstPlaces-set : (numbers places : List ℕ) (many number : ℕ) → AllPairs (λ x y. x ≢ y) numbers → many < length numbers → get_or numbers many 0 ≡ number → number < length numbers
-    → HasFirstPlaces numbers places many → HasFirstPlaces numbers (set places number many) (many + 1)
-HasFirstPlaces-set numbers places many number distinct within is small was = record {
-  long = length-set places number many ∙ was.long;
-  there = λ place before.
-      let long : length places ≡ length numbers = was.long in
-      elim (cases_eq place many) [
-        | inl same ↦ ap (λ n. get_or (set places number many) n 0) (ap (λ p. get_or numbers p 0) same ∙ is) ∙ get_or-set_same places number many 0 (omega arith) ∙ sym same
-        | inr other ↦
-            let earlier : place < many = omega arith in
-            let apart : get_or numbers place 0 ≢ number = λ same. distinct place many 0 earlier within (same ∙ sym is) in
-            get_or-set_other places number (get_or numbers place 0) many 0 apart ∙ was.there place earlier
-      ];
-}
-
--- all have
-pub all_placed : (numbers places : List ℕ) (many : ℕ) → many ≡ length numbers → HasFirstPlaces numbers places many → HasPlaces numbers places
-all_placed numbers places many all was = record { long = was.long; there = λ place within. was.there place (omega arith) }
 
 module _ (order places : List ℕ) (are : AreNumbers order) (placed : HasPlaces order places) (query : ℕ) (small : query < length order) where
   -- the query stands at its place

@@ -1,7 +1,8 @@
 -- The lines and the queries of a catalogue as a query comes and is taken back.
-use Rattle.std.proofs.Common.{◌≡◌, ◌∙◌, ℕ, List, [], ◌∷◌, ◌++◌, length, take, get_or, sym, ap, subst}
+use Rattle.std.proofs.Common.{◌≡◌, ◌∙◌, ℕ, List, [], ◌∷◌, ◌++◌, ◌-◌, length, take, get_or, sym, ap, subst, arith}
 use Rattle.std.specs.Prelude.{Some, slice_get}
 use Rattle.std.proofs.Math.Seq.{get_or-append_seam, take-append_seam}
+use Rattle.std.proofs.lemmas.List.{length_push}
 use Rattle.std.proofs.lemmas.Option.{get_or_from_slice_get}
 use Rattle.expressions.specs.declared.expression.Expr.{Expr}
 use Rattle.stream_schema.specs.Streams.{Entry}
@@ -37,14 +38,15 @@ lines_back held before is even whole told whole_is =
     λ i. record { lines = first i; ends = ends i; shares = record { lines = lines i; streams = streams i }; layout = record { order = worked i; outs = printed i; kinds = typed i } }
 
 -- a query that was put is taken back
-pub queries_back : (work whole : HeldQueries) (publication : Published) (x : Expr) (queries : ℕ) → whole ≡ with_last work publication x → queries ≡ length work.order → length work.places ≡ length work.order → length work.published ≡ length work.order
-    → length work.expressions ≡ length work.order → first_queries whole queries ≡ work
-queries_back work whole publication x queries whole_is many places published expressions =
-    let order_back = taken_back work.order whole.order (length work.order ∷ []) queries (ap (λ (w : HeldQueries). w.order) whole_is) many in
-    let places_back = taken_back work.places whole.places (length work.order ∷ []) queries (ap (λ (w : HeldQueries). w.places) whole_is) (many ∙ sym places) in
+pub queries_back : (work whole : HeldQueries) (publication : Published) (x : Expr) → whole ≡ with_last work publication x → length work.published ≡ length work.order → length work.expressions ≡ length work.order → first_queries whole (length whole.order - 1) ≡ work
+queries_back work whole publication x whole_is published expressions =
+    let order_is : whole.order ≡ work.order ++ length work.order ∷ [] = ap (λ (w : HeldQueries). w.order) whole_is in
+    let queries : ℕ = length whole.order - 1 in
+    let many : queries ≡ length work.order = omega (arith, ap length order_is, length_push work.order (length work.order)) in
+    let order_back = taken_back work.order whole.order (length work.order ∷ []) queries order_is many in
     let published_back = taken_back work.published whole.published (publication ∷ []) queries (ap (λ (w : HeldQueries). w.published) whole_is) (many ∙ sym published) in
     let expressions_back = taken_back work.expressions whole.expressions (x ∷ []) queries (ap (λ (w : HeldQueries). w.expressions) whole_is) (many ∙ sym expressions) in
-    λ i. record { order = order_back i; places = places_back i; published = published_back i; expressions = expressions_back i }
+    λ i. record { order = order_back i; published = published_back i; expressions = expressions_back i }
 
 -- the catalogue of these parts
 abbrev pub view_of : Filed → ℕ → List Entry → HeldQueries → HeldLines → ℕ → Catalogued
@@ -61,11 +63,11 @@ view_of file declared streams work chains next_end = record {
 }
 
 -- a catalogue is kept whose parts are what they were
-pub kept_back : (file : Filed) (declared : ℕ) (streams : List Entry) (work : HeldQueries) (chains : HeldLines) (next_end : ℕ) (reads : List ℕ) (own size : ℕ)
-    → IsKept (view_of file declared streams work chains next_end) work.places chains.lines chains.shares reads own size → (now_streams : List Entry) (now_work : HeldQueries) (now_chains : HeldLines) (now_reads : List ℕ)
-    → now_streams ≡ streams → now_work ≡ work → now_chains ≡ chains → StayTallied reads now_reads → IsKept (view_of file declared now_streams now_work now_chains next_end) now_work.places now_chains.lines now_chains.shares now_reads own size
-kept_back file declared streams work chains next_end reads own size kept now_streams now_work now_chains now_reads streams_are work_is chains_are stay =
+pub kept_back : (file : Filed) (declared : ℕ) (streams : List Entry) (work : HeldQueries) (chains : HeldLines) (next_end : ℕ) (reads : List ℕ) (size : ℕ)
+    → IsKept (view_of file declared streams work chains next_end) chains.lines chains.shares reads size → (now_streams : List Entry) (now_work : HeldQueries) (now_chains : HeldLines) (now_reads : List ℕ)
+    → now_streams ≡ streams → now_work ≡ work → now_chains ≡ chains → StayTallied reads now_reads → IsKept (view_of file declared now_streams now_work now_chains next_end) now_chains.lines now_chains.shares now_reads size
+kept_back file declared streams work chains next_end reads size kept now_streams now_work now_chains now_reads streams_are work_is chains_are stay =
     let held = kept.held in
-    let tallied : IsHeld (view_of file declared streams work chains next_end) work.places chains.lines chains.shares now_reads = record { stands = held.stands; placed = held.placed; lines_are = held.lines_are; shared = held.shared; tallied = λ stream. stay stream ∙ held.tallied stream } in
-    let still : IsKept (view_of file declared streams work chains next_end) work.places chains.lines chains.shares now_reads own size = record { held = tallied; owned = kept.owned; sized = kept.sized } in
-    subst (λ (s : List Entry × HeldQueries × HeldLines). IsKept (view_of file declared s.0 s.1 s.2 next_end) s.1.places s.2.lines s.2.shares now_reads own size) (λ i. (sym streams_are i, sym work_is i, sym chains_are i)) still
+    let tallied : IsHeld (view_of file declared streams work chains next_end) chains.lines chains.shares now_reads = record { stands = held.stands; lines_are = held.lines_are; shared = held.shared; tallied = λ stream. stay stream ∙ held.tallied stream } in
+    let still : IsKept (view_of file declared streams work chains next_end) chains.lines chains.shares now_reads size = record { held = tallied; sized = kept.sized } in
+    subst (λ (s : List Entry × HeldQueries × HeldLines). IsKept (view_of file declared s.0 s.1 s.2 next_end) s.2.lines s.2.shares now_reads size) (λ i. (sym streams_are i, sym work_is i, sym chains_are i)) still

@@ -25,7 +25,7 @@ use Rattle.catalogue.specs.Numbering.{HasNumbers}
 use Rattle.catalogue.specs.Parts.{IsAccepted, Parts, judged_of, parts_of, published_from}
 use Rattle.catalogue.specs.Sharing.{shares_of}
 use Rattle.catalogue.specs.Standing.{StandsInOrder}
-use Rattle.catalogue.specs.Tables.{AreOwnFrom, IsHeld, IsKept}
+use Rattle.catalogue.specs.Tables.{IsHeld, IsKept}
 use Rattle.catalogue.proofs.ChainedLemmas.{many_streams, streams_whole}
 use Rattle.catalogue.proofs.CountedLemmas.{chain_count, lines_most}
 use Rattle.catalogue.proofs.FewLemmas.{lines_few, numbers_left}
@@ -118,7 +118,7 @@ module _ (file : Filed) (given : Typed) (accepted : IsAccepted (parts_of file gi
       file = file;
       declared = (is.declared ∙ are.declared) i;
       streams = streams_are i;
-      order = (is.work i).order;
+      order = (ap (λ (w : HeldQueries). w.order) is.work ∙ are.ordered) i;
       published = (ap (λ (w : HeldQueries). w.published) is.work ∙ are.published) i;
       expressions = (is.work i).expressions;
       ends = (ap (λ (h : HeldLines). h.ends) is.chains ∙ ap (range_with_len 0) lines_many) i;
@@ -126,24 +126,22 @@ module _ (file : Filed) (given : Typed) (accepted : IsAccepted (parts_of file gi
       layout = (is.chains i).layout;
     }
 
-    loaded_held : IsHeld all_loaded laid.places laid.chains.lines laid.shares laid.reads
+    loaded_held : IsHeld all_loaded laid.chains.lines laid.shares laid.reads
     loaded_held = record {
       stands = stands there laid.chains are.chained;
-      placed = are.placed;
       lines_are = are.chained.lines ∙ ap lines_of (sym (program_is parts accepted typed laid.chains.layout are.chained.layout));
       shared = are.shared ∙ shares_unnamed [] all_loaded.streams laid.published given.expressions ∙ ap (λ (ps : List Published). shares_of (queries_of all_loaded.streams ps given.expressions)) are.published;
       tallied = are.tallied;
     }
 
-    made_held : IsHeld made held.work.places held.chains.lines held.chains.shares held.reads
+    made_held : IsHeld made held.chains.lines held.chains.shares held.reads
     made_held =
-        subst (λ (s : Catalogued × HeldQueries × HeldLines × List ℕ). IsHeld s.0 s.1.places s.2.lines s.2.shares s.3) (λ i. (sym made_is i, sym is.work i, sym is.chains i, sym is.reads i)) loaded_held
+        subst (λ (s : Catalogued × HeldLines × List ℕ). IsHeld s.0 s.1.lines s.1.shares s.2) (λ i. (sym made_is i, sym is.chains i, sym is.reads i)) loaded_held
 
     -- it stands in order, and is held with all that is laid out
-    pub made_kept : IsKept made held.work.places held.chains.lines held.chains.shares held.reads held.own held.size
+    pub made_kept : IsKept made held.chains.lines held.chains.shares held.reads held.size
     made_kept = record {
       held = made_held;
-      owned = subst (λ (w : HeldQueries). AreOwnFrom w.order held.own) (sym is.work) is.own;
       sized = is.size ∙ ap (λ (h : HeldLines). size h.lines) (sym is.chains);
     }
 

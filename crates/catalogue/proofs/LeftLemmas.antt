@@ -32,8 +32,9 @@ use Rattle.catalogue.specs.Standing.{AreEnds, IsKnown, IsLayoutOver, IsUpTo, Sta
 use Rattle.catalogue.proofs.ChangeLemmas.{programs_lose_queries}
 use Rattle.catalogue.proofs.LeftProgramLemmas.{at_within, at_work, behind_all, none_such, numbers, numbers_are, program_left, queries_left, work_apart, work_left, work_long}
 use Rattle.catalogue.proofs.LinedLemmas.{chain_lined}
-use Rattle.catalogue.proofs.MovedLemmas.{left_many, place_back, place_in, stands_at}
-use Rattle.catalogue.proofs.RemovingLemmas.{All-without, AllPairs-without, flat_map-remove, length-without, map-remove, remove_from, remove_has, sum_by-without}
+use Rattle.catalogue.proofs.MovedLemmas.{left_many}
+use Rattle.work_order.proofs.NumbersLemmas.{map-remove, place_back, place_in, stands_at}
+use Rattle.catalogue.proofs.RemovingLemmas.{All-without, AllPairs-without, flat_map-remove, length-without, remove_from, remove_has, sum_by-without}
 use Rattle.catalogue.proofs.StandLemmas.{Contains-map}
 
 -- another name leaves the schemas

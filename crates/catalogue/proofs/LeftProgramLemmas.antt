@@ -21,9 +21,11 @@ use Rattle.cel_types.specs.SourceLaws.{kinds_in}
 use Rattle.catalogue.specs.declared.numbering.Published.{Published}
 use Rattle.catalogue.specs.Catalogued.{Catalogued, program_in, queries_of, query_in, work_in}
 use Rattle.catalogue.specs.Changes.{publishes_another, without_query}
-use Rattle.catalogue.specs.Leaving.{catalogue_without, moved_down, place_of}
-use Rattle.catalogue.specs.Standing.{AreNumbers, StandsInOrder}
-use Rattle.catalogue.proofs.MovedLemmas.{before_move, found, left, left_many, left_numbers, place_back, place_in, stands_at}
+use Rattle.work_order.specs.Numbers.{AreNumbers, moved_down}
+use Rattle.work_order.proofs.NumbersLemmas.{place_back, place_in, stands_at}
+use Rattle.catalogue.specs.Leaving.{catalogue_without, place_of}
+use Rattle.catalogue.specs.Standing.{StandsInOrder}
+use Rattle.catalogue.proofs.MovedLemmas.{before_move, found, left, left_many, left_numbers}
 use Rattle.catalogue.proofs.RemovingLemmas.{filter_removes, remove_from}
 use Rattle.catalogue.proofs.StandingLemmas.{name_at, queries_many}
 

@@ -40,7 +40,6 @@ pub mod WorkLemmas
 pub mod HoldingLemmas
 pub mod RemovingLemmas
 pub mod MovedLemmas
-pub mod MovingLemmas
 pub mod LeftProgramLemmas
 pub mod LinedLemmas
 pub mod LeftLemmas
@@ -54,8 +53,6 @@ pub mod ComingLemmas
 pub mod JudgeLemmas
 pub mod NewcomerLemmas
 pub mod HalvingLemmas
-pub mod LeftPlacesLemmas
-pub mod OwnLemmas
 pub mod SizeLemmas
 pub mod LaidLemmas
 pub mod HeldPartLemmas

@@ -1,26 +1,15 @@
 -- The numbers of queries once one of them has left.
-use Rattle.std.proofs.Common.{◌≡◌, ◌≢◌, ◌∙◌, ℕ, ◌+◌, ◌-◌, ◌<◌, ◌≤◌, List, cond, length, map, get_or, refl, sym, ap, subst, inl, inr, arith}
-use Rattle.std.specs.Prelude.{◌==◌, ◌⊎◌, AllPairs, Contains}
-use Rattle.std.specs.List.{position_or_len, remove}
-use Rattle.std.proofs.lemmas.Bool.{cases_lt, le-ltb, lt-ltb}
+use Rattle.std.proofs.Common.{◌≡◌, ◌≢◌, ◌∙◌, ℕ, ◌+◌, ◌-◌, ◌<◌, ◌≤◌, List, length, map, get_or, refl, sym, ap, subst, inl, inr, arith}
+use Rattle.std.specs.Prelude.{◌⊎◌, AllPairs, Contains}
+use Rattle.std.specs.List.{remove}
+use Rattle.std.proofs.lemmas.Bool.{cases_lt}
 use Rattle.std.proofs.lemmas.List.{get_or-map, get_or_default, length-map}
 use Rattle.std.proofs.lemmas.List.Edits.{get_or-remove_above, get_or-remove_below, length-remove}
 use Rattle.std.proofs.lemmas.List.Elements.{Contains-get_or}
 use Rattle.std.proofs.lemmas.List.Quantifiers.{all_pairs_remove}
-use Rattle.std.proofs.lemmas.List.Sums.{position_or_len_is}
-use Rattle.event_types.proofs.NumberLemmas.{is_other, self_equal}
 use Rattle.semantics.specs.Programs.{Query}
-use Rattle.catalogue.specs.Leaving.{moved_down}
-use Rattle.catalogue.specs.Standing.{AreNumbers}
-use Rattle.catalogue.specs.Tables.{HasFirstPlaces, HasPlaces}
-
--- a number up to that one stays
-pub moved_low : (gone number : ℕ) → number ≤ gone → moved_down gone number ≡ number
-moved_low gone number below = ap (λ b. cond b (number - 1) number) (le-ltb gone number below)
-
--- a greater one is one less
-pub moved_high : (gone number : ℕ) → gone < number → moved_down gone number ≡ number - 1
-moved_high gone number above = ap (λ b. cond b (number - 1) number) (lt-ltb gone number above)
+use Rattle.work_order.specs.Numbers.{AreNumbers, moved_down}
+use Rattle.work_order.proofs.NumbersLemmas.{moved_high, moved_low, place_in, stands_at}
 
 -- which of two ways another number goes
 side : (gone number : ℕ) → number ≢ gone → ((number < gone) × (moved_down gone number ≡ number)) ⊎ ((gone < number) × (moved_down gone number ≡ number - 1))
@@ -46,26 +35,9 @@ moved_apart gone x y x_other y_other other same = elim (side gone x x_other) [
 ]
 
 module _ (order : List ℕ) (are : AreNumbers order) where
-  abbrev pub place_in : ℕ → ℕ
-  place_in number = position_or_len (λ other. number == other) order
-
-  -- a place is that of its number
-  pub place_back : (k : ℕ) → k < length order → place_in (get_or order k 0) ≡ k
-  place_back k within =
-      position_or_len_is (λ other. get_or order k 0 == other) order k 0 (omega (arith, within)) (λ j before. is_other (get_or order k 0) (get_or order j 0) (λ same. are.distinct j k 0 before within (sym same)))
-      (λ inside. self_equal (get_or order k 0))
-
-  -- a number stands at its place
-  pub stands_at : (number : ℕ) → number < length order → (place_in number < length order) × (get_or order (place_in number) 0 ≡ number)
-  stands_at number small =
-      let (k, within, same) = (are.all number).1 small in
-      let here : get_or order k 0 ≡ number = sym (get_or_default order k number 0 within) ∙ same in
-      let is : place_in number ≡ k = ap place_in (sym here) ∙ place_back k within in
-      (subst (λ n. n < length order) (sym is) within, ap (λ n. get_or order n 0) is ∙ here)
-
   module _ (gone : ℕ) (small : gone < length order) where
     abbrev at : ℕ
-    at = place_in gone
+    at = place_in order are gone
 
     abbrev rest : List ℕ
     rest = remove order at
@@ -74,7 +46,7 @@ module _ (order : List ℕ) (are : AreNumbers order) where
     left = map (moved_down gone) rest
 
     at_within : at < length order
-    at_within = (stands_at gone small).0
+    at_within = (stands_at order are gone small).0
 
     pub left_many : length left + 1 ≡ length order
     left_many = ap (λ n. n + 1) (length-map rest (moved_down gone)) ∙ length-remove order at at_within
@@ -85,9 +57,9 @@ module _ (order : List ℕ) (are : AreNumbers order) where
     -- none of the others is the number
     rest_other : (k : ℕ) → k < length rest → get_or rest k 0 ≢ gone
     rest_other k inside same = elim (cases_lt k at) [
-      | inl before ↦ are.distinct k at 0 before at_within (sym (get_or-remove_below order at 0 k before at_within) ∙ same ∙ sym (stands_at gone small).1)
+      | inl before ↦ are.distinct k at 0 before at_within (sym (get_or-remove_below order at 0 k before at_within) ∙ same ∙ sym (stands_at order are gone small).1)
       | inr past ↦
-          are.distinct at (k + 1) 0 (omega (arith, past)) (omega (arith, inside, rest_many)) ((stands_at gone small).1 ∙ sym same ∙ get_or-remove_above order at 0 k past at_within)
+          are.distinct at (k + 1) 0 (omega (arith, past)) (omega (arith, inside, rest_many)) ((stands_at order are gone small).1 ∙ sym same ∙ get_or-remove_above order at 0 k past at_within)
     ]
 
     rest_small : (k : ℕ) → k < length rest → get_or rest k 0 < length order
@@ -122,10 +94,10 @@ module _ (order : List ℕ) (are : AreNumbers order) where
     -- another number has its place among the others
     module _ (number : ℕ) (within : number < length order) (other : number ≢ gone) where
       abbrev was : ℕ
-      was = place_in number
+      was = place_in order are number
 
       was_other : was ≢ at
-      was_other same = other (sym (stands_at number within).1 ∙ ap (λ n. get_or order n 0) same ∙ (stands_at gone small).1)
+      was_other same = other (sym (stands_at order are number within).1 ∙ ap (λ n. get_or order n 0) same ∙ (stands_at order are gone small).1)
 
       -- where it stands then
       pub found : (k : ℕ) × (k < length rest) × (get_or rest k 0 ≡ number) × ((ys : List Query) (d : Query) → length ys ≡ length order → get_or (remove ys at) k d ≡ get_or ys was d)
@@ -133,15 +105,15 @@ module _ (order : List ℕ) (are : AreNumbers order) where
         | inl before ↦ (
           was,
           omega (arith, before, at_within, rest_many),
-          get_or-remove_below order at 0 was before at_within ∙ (stands_at number within).1,
+          get_or-remove_below order at 0 was before at_within ∙ (stands_at order are number within).1,
           λ ys d long. get_or-remove_below ys at d was before (omega (arith, long, at_within)),
         )
         | inr past ↦
             let above : at < was = elim (cases_lt at was) [ inl less ↦ less | inr equal ↦ absurd (was_other (omega (arith, past, equal))) ] in
             let back : was - 1 + 1 ≡ was = omega (arith, above) in (
               was - 1,
-              omega (arith, (stands_at number within).0, above, rest_many),
-              get_or-remove_above order at 0 (was - 1) (omega (arith, above)) at_within ∙ ap (λ n. get_or order n 0) back ∙ (stands_at number within).1,
+              omega (arith, (stands_at order are number within).0, above, rest_many),
+              get_or-remove_above order at 0 (was - 1) (omega (arith, above)) at_within ∙ ap (λ n. get_or order n 0) back ∙ (stands_at order are number within).1,
               λ ys d long. get_or-remove_above ys at d (was - 1) (omega (arith, above)) (omega (arith, long, at_within)) ∙ ap (λ n. get_or ys n d) back,
             )
       ]
@@ -174,42 +146,3 @@ module _ (order : List ℕ) (are : AreNumbers order) where
         (λ within. let (old, small_old, other, moved, which) = before_move number within in subst (Contains left) moved (moved_there old small_old other)),
       );
     }
-
--- those before the place of the one that left keep theirs
-pub first_left : (order places : List ℕ) (are : AreNumbers order) → HasPlaces order places → (gone : ℕ) → gone < length order
-    → HasFirstPlaces (map (moved_down gone) (remove order (position_or_len (λ other. gone == other) order))) (remove places gone) (position_or_len (λ other. gone == other) order)
-first_left order places are placed gone small = record { long = long; there = there }
-  where
-    at : ℕ
-    at = position_or_len (λ other. gone == other) order
-
-    at_is : (at < length order) × (get_or order at 0 ≡ gone)
-    at_is = stands_at order are gone small
-
-    rest_long : length (remove order at) + 1 ≡ length order
-    rest_long = let e = length-remove order at at_is.0 in omega (arith, e)
-
-    inside : gone < length places
-    inside = omega (arith, small, placed.long)
-
-    places_long : length (remove places gone) + 1 ≡ length places
-    places_long = let e = length-remove places gone inside in omega (arith, e)
-
-    long : length (remove places gone) ≡ length (map (moved_down gone) (remove order at))
-    long = omega (arith, length-map (remove order at) (moved_down gone), rest_long, places_long, placed.long)
-
-    there : (place : ℕ) → place < at → get_or (remove places gone) (get_or (map (moved_down gone) (remove order at)) place 0) 0 ≡ place
-    there place before =
-        let n : ℕ = get_or order place 0 in
-        let within : place < length order = omega (arith, before, at_is.0) in
-        let n_small : n < length order = (are.all n).0 (Contains-get_or order place 0 within) in
-        let n_other : n ≢ gone = λ same. are.distinct place at 0 before at_is.0 (same ∙ sym at_is.1) in
-        let own : get_or places n 0 ≡ place = placed.there place within in
-        let moved : get_or (map (moved_down gone) (remove order at)) place 0 ≡ moved_down gone n =
-        get_or-map (moved_down gone) (remove order at) place 0 0 (omega (arith, before, at_is.0, rest_long)) ∙ ap (moved_down gone) (get_or-remove_below order at 0 place before at_is.0) in
-        elim (side gone n n_other) [
-          | inl low ↦ ap (λ k. get_or (remove places gone) k 0) (moved ∙ low.1) ∙ get_or-remove_below places gone 0 n low.0 inside ∙ own
-          | inr high ↦
-              let back : n - 1 + 1 ≡ n = omega (arith, high.0) in
-              ap (λ k. get_or (remove places gone) k 0) (moved ∙ high.1) ∙ get_or-remove_above places gone 0 (n - 1) (omega (arith, high.0)) inside ∙ ap (λ k. get_or places k 0) back ∙ own
-        ]

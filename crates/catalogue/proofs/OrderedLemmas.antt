@@ -1,4 +1,4 @@
--- The numbers and the places of queries, with one query more.
+-- The numbers of queries, with one query more.
 use Rattle.std.proofs.Common.{◌≡◌, ◌≢◌, ◌∙◌, ℕ, zero, suc, ◌+◌, ◌-◌, ◌<◌, ◌≤◌, List, [], ◌∷◌, ◌++◌, length, get_or, map, refl, sym, ap, inl, inr, arith}
 use Rattle.std.specs.Prelude.{◌==◌, AllPairs}
 use Rattle.std.specs.List.{position_or_len, range_with_len}
@@ -12,8 +12,8 @@ use Rattle.std.proofs.lemmas.List.Sums.{position_or_len_is}
 use Rattle.event_types.proofs.NumberLemmas.{is_other, self_equal}
 use Rattle.splitter.proofs.ApartLemmas.{range_all}
 use Rattle.automaton.specs.declared.line.Line.{Line}
-use Rattle.catalogue.specs.Standing.{AreEnds, AreNumbers}
-use Rattle.catalogue.specs.Tables.{HasPlaces}
+use Rattle.work_order.specs.Numbers.{AreNumbers}
+use Rattle.catalogue.specs.Standing.{AreEnds}
 use Rattle.catalogue.proofs.ChangeLemmas.{one-is}
 
 -- the same images of numbers in turn
@@ -55,20 +55,6 @@ module _ (order : List ℕ) (are : AreNumbers order) where
         | inr past ↦ let is : many ≡ number = omega (arith, small, past, length_push order many) in Contains-append_right order (many ∷ []) number (0, omega arith, is)
       ]),
     );
-  }
-
-  -- and its place
-  pub places_more : (places : List ℕ) → HasPlaces order places → HasPlaces more (places ++ many ∷ [])
-  places_more places placed = record {
-    long = omega (arith, length_push places many, length_push order many, placed.long);
-    there = λ place within. elim (cases_lt place many) [
-      | inl before ↦
-          let small : get_or order place 0 < length places = omega (arith, number_small place 0 before, placed.long) in
-          ap (λ n. get_or (places ++ many ∷ []) n 0) (get_or_append_left order (many ∷ []) 0 place before) ∙ get_or_append_left places (many ∷ []) 0 (get_or order place 0) small ∙ placed.there place before
-      | inr past ↦
-          let is : place ≡ many = omega (arith, within, past, length_push order many) in
-          ap (λ n. get_or (places ++ many ∷ []) n 0) (ap (λ p. get_or more p 0) is ∙ at_end order many 0 many refl) ∙ at_end places many 0 many (sym placed.long) ∙ sym is
-    ];
   }
 
 -- the ends of more lines have the next numbers

@@ -1,5 +1,5 @@
 -- Lists without an item, and without a part.
-use Rattle.std.proofs.Common.{◌≡◌, ◌≢◌, ◌∙◌, ℕ, zero, suc, ◌+◌, ◌-◌, ◌<◌, ◌≤◌, List, [], ◌∷◌, ◌++◌, Bool, true, false, cond, length, map, take, drop, get_or, refl, sym, ap, subst, inl, inr, arith, length-take-le}
+use Rattle.std.proofs.Common.{◌≡◌, ◌≢◌, ◌∙◌, ℕ, zero, suc, ◌+◌, ◌-◌, ◌<◌, ◌≤◌, List, [], ◌∷◌, ◌++◌, Bool, true, false, cond, length, take, drop, get_or, sym, ap, subst, inl, inr, arith, length-take-le}
 use Rattle.std.specs.Prelude.{AllPairs, Contains, sum_by}
 use Rattle.std.specs.List.{All, filter, flat_map, remove}
 use Rattle.std.proofs.Math.Seq.{drop-append-add, drop-append_seam, drop-cons, take-append_seam}
@@ -93,9 +93,3 @@ remove_has xs k d within i inside other =
           let back : i - 1 + 1 ≡ i = omega (arith, above) in
           subst (Contains (remove xs k)) (get_or-remove_above xs k d (i - 1) (omega (arith, above)) within ∙ ap (λ n. get_or xs n d) back) (Contains-get_or (remove xs k) (i - 1) d (omega (arith, inside, long, above)))
     ]
-
--- the images of what is left
-pub map-remove : {X Y : Type 0} (f : X → Y) (xs : List X) (k : ℕ) → k < length xs → map f (remove xs k) ≡ remove (map f xs) k
-map-remove f [] k within = absurd (omega (arith, within))
-map-remove f (x ∷ xs) zero within = refl
-map-remove f (x ∷ xs) (suc k) within = ap (λ ys. f x ∷ ys) (map-remove f xs k (omega (arith, within)))

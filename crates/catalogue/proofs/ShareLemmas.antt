@@ -27,7 +27,8 @@ use Rattle.catalogue.specs.Sharing.{share_of, shares_of, streams_many, with_shar
 use Rattle.catalogue.specs.Standing.{StandsInOrder}
 use Rattle.catalogue.proofs.LeftLemmas.{ends_within}
 use Rattle.catalogue.proofs.LeftProgramLemmas.{at_work, none_such}
-use Rattle.catalogue.proofs.RemovingLemmas.{flat_map-remove, map-remove}
+use Rattle.work_order.proofs.NumbersLemmas.{map-remove}
+use Rattle.catalogue.proofs.RemovingLemmas.{flat_map-remove}
 use Rattle.catalogue.proofs.StandingLemmas.{queries_at, queries_many}
 
 module _ (published : List Published) (xs : List Expr) (place : ℕ) (same : length published ≡ length xs) where

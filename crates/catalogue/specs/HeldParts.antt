@@ -37,11 +37,10 @@ first_held held before = record { lines = take before.lines held.lines; ends = t
 abbrev pub with_last : HeldQueries → Published → Expr → HeldQueries
 with_last held publication x = record {
   order = held.order ++ length held.order ∷ [];
-  places = held.places ++ length held.order ∷ [];
   published = held.published ++ publication ∷ [];
   expressions = held.expressions ++ x ∷ [];
 }
 
 -- the first so many queries
 abbrev pub first_queries : HeldQueries → ℕ → HeldQueries
-first_queries held many = record { order = take many held.order; places = take many held.places; published = take many held.published; expressions = take many held.expressions }
+first_queries held many = record { order = take many held.order; published = take many held.published; expressions = take many held.expressions }

@@ -1,5 +1,5 @@
 -- What a catalogue is once a query has left it, and when none may leave.
-use Rattle.std.specs.Prelude.{◌≡◌, ◌≢◌, ◌<◌, ◌+◌, ◌-◌, ◌==◌, ℕ, nat_lt, if◌then◌else◌, List, ◌++◌, length, map, take, drop}
+use Rattle.std.specs.Prelude.{◌≡◌, ◌≢◌, ◌<◌, ◌+◌, ◌==◌, ℕ, List, ◌++◌, length, map, take, drop}
 use Rattle.std.specs.List.{position_or_len, remove}
 use Rattle.automaton.specs.declared.layout.Layout.{Layout}
 use Rattle.automaton.specs.Layouts.{HasPart, shrunk}
@@ -8,6 +8,7 @@ use Rattle.semantics.specs.Reading.{ReadsOnly}
 use Rattle.splitter.specs.Chains.{chain_lines, chain_order}
 use Rattle.splitter.specs.Splitting.{split_lines}
 use Rattle.stream_schema.specs.Streams.{retired}
+use Rattle.work_order.specs.Numbers.{moved_down}
 use Rattle.catalogue.specs.declared.dropping.Dropped.{Dropped}
 use Rattle.catalogue.specs.declared.fault.DropFault.{DropFault}
 use Rattle.catalogue.specs.declared.fault.DropFault.TheVariants.{UnknownQuery, InUse, Memory}
@@ -17,10 +18,6 @@ use Rattle.catalogue.specs.Changes.{without_query}
 -- the place of a query in the order of work
 abbrev pub place_of : Catalogued → ℕ → ℕ
 place_of c number = position_or_len (λ other. number == other) c.order
-
--- the number of a query once another one has left: the later queries move down by one
-abbrev pub moved_down : ℕ → ℕ → ℕ
-moved_down gone number = if nat_lt gone number then number - 1 else number
 
 -- a list without its items from a place up to another
 abbrev pub without_part : {X : Type 0} → List X → ℕ → ℕ → List X

@@ -9,6 +9,7 @@ use Rattle.splitter.specs.Chains.{hidden_end, lines_of, outs_of, work_order}
 use Rattle.splitter.specs.ProgramLaws.{IsWideProgram}
 use Rattle.stream_schema.specs.Streams.{Entry, IsRetired}
 use Rattle.cel_types.specs.SourceLaws.{kinds_in}
+use Rattle.work_order.specs.Numbers.{AreNumbers}
 use Rattle.catalogue.specs.Catalogued.{Catalogued, program_in, work_in}
 use Rattle.catalogue.specs.Changes.{streams_there}
 
@@ -16,11 +17,6 @@ use Rattle.catalogue.specs.Changes.{streams_there}
 pub record IsKnown (streams : List Entry) (number : ℕ) : Type 0 where
   pub within : number < length streams
   pub named : IsRetired streams number → ⊥
-
--- the numbers are those below how many there are, each once
-pub record AreNumbers (numbers : List ℕ) : Type 0 where
-  pub distinct : AllPairs (λ x y. x ≢ y) numbers
-  pub all : (number : ℕ) → Contains numbers number ↔ (number < length numbers)
 
 -- the first birth isn't after the second, where none is before all times
 abbrev pub IsUpTo : Option ℕ → Option ℕ → Type 0

@@ -1,5 +1,5 @@
 -- Tables of the statements of a file, by name and by the queries' numbers. No public clause cites this.
-use Rattle.std.specs.Prelude.{◌≡◌, ◌≢◌, ◌<◌, ◌≤◌, ◌+◌, ◌-◌, ℕ, List, length, map, Some, slice_get, slice_index_or, sum_by}
+use Rattle.std.specs.Prelude.{◌≡◌, ◌+◌, ℕ, List, length, map, Some, slice_get, sum_by}
 use Rattle.automaton.specs.declared.line.Line.{Line}
 use Rattle.splitter.specs.Chains.{lines_of}
 use Rattle.cel_grammar.specs.Trees.{Statement}
@@ -23,35 +23,14 @@ pub record ArePlaces (statements : List Statement) (lines : List ℕ) (some : Li
   pub queries : map (slice_get statements) places ≡ map Some (queries_in some)
   pub lines_are : map (slice_get lines) places ≡ map Some (query_lines some some_lines)
 
--- the first so many of these numbers have their places
-pub record HasFirstPlaces (numbers : List ℕ) (places : List ℕ) (many : ℕ) : Type 0 where
-  pub long : length places ≡ length numbers
-  pub there : (place : ℕ) → place < many → slice_index_or places (slice_index_or numbers place 0) 0 ≡ place
-
--- for each of these numbers its place among them
-pub record HasPlaces (numbers : List ℕ) (places : List ℕ) : Type 0 where
-  pub long : length places ≡ length numbers
-  pub there : (place : ℕ) → place < length numbers → slice_index_or places (slice_index_or numbers place 0) 0 ≡ place
-
--- from this place on each of the numbers is its own place
-abbrev pub AreOwnFrom : List ℕ → ℕ → Type 0
-AreOwnFrom numbers first = (place : ℕ) → first ≤ place → place < length numbers → slice_index_or numbers place 0 ≡ place
-
--- it is the first such place: there is such a place, and the number right before it, if there is one, isn't its own place
-pub record IsOwnFirst (numbers : List ℕ) (first : ℕ) : Type 0 where
-  pub within : first ≤ length numbers
-  pub before : 0 < first → slice_index_or numbers (first - 1) 0 ≢ first - 1
-
--- the catalogue stands in order, these are the places of its queries in the order of work, these are its lines, these are the shares that its queries have, and these are the tallies of what they read
-pub record IsHeld (c : Catalogued) (places : List ℕ) (lines : List Line) (shares : Shares) (reads : List ℕ) : Type 0 where
+-- the catalogue stands in order, these are its lines, these are the shares that its queries have, and these are the tallies of what they read
+pub record IsHeld (c : Catalogued) (lines : List Line) (shares : Shares) (reads : List ℕ) : Type 0 where
   pub stands : StandsInOrder c
-  pub placed : HasPlaces c.order places
   pub lines_are : lines ≡ lines_of (program_in c)
   pub shared : shares ≡ shares_of (work_in c)
   pub tallied : AreTallied c.expressions reads
 
--- the catalogue is held with these; from this place on each of its queries' numbers is its own place; and so many are its lines and the hops on them
-pub record IsKept (c : Catalogued) (places : List ℕ) (lines : List Line) (shares : Shares) (reads : List ℕ) (own size : ℕ) : Type 0 where
-  pub held : IsHeld c places lines shares reads
-  pub owned : AreOwnFrom c.order own
+-- the catalogue is held with these; and so many are its lines and the hops on them
+pub record IsKept (c : Catalogued) (lines : List Line) (shares : Shares) (reads : List ℕ) (size : ℕ) : Type 0 where
+  pub held : IsHeld c lines shares reads
   pub sized : size ≡ sum_by (λ line. 1 + length line.hops) lines

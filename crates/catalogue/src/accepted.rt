@@ -20,6 +20,7 @@ use long_lists::LongList;
 use std::alloc::Global;
 use std::marker::Model;
 use stream_schema::Streams;
+use work_order::WorkOrder;
 
 /// Queries that stand in order: the statements that they were loaded from, the streams that these declare, those that
 /// the queries publish, hidden ones too, and the queries, typed, with their lines. A query's number is its place among
@@ -31,8 +32,6 @@ pub struct Catalogue {
     // By number: those that STREAM declares, those of the queries, and hidden ones.
     pub(crate) streams: Streams,
     pub(crate) work: HeldQueries,
-    // From this place in the order of work on each query's number is its place.
-    pub(crate) own: usize,
     pub(crate) chains: HeldLines,
     pub(crate) next_end: usize,
     // How many lines there are, and hops on them.
@@ -52,7 +51,7 @@ impl Model for Catalogue {
 
     ghost view = { λ c. record { file = c.file; declared = c.declared; streams = c.streams; order = c.work.order; published = c.work.published; expressions = c.work.expressions; ends = c.chains.ends; next_end = c.next_end; layout = c.chains.layout } };
 
-    ghost invariant = { λ c. IsKept (record { file = c.file; declared = c.declared; streams = c.streams; order = c.work.order; published = c.work.published; expressions = c.work.expressions; ends = c.chains.ends; next_end = c.next_end; layout = c.chains.layout }) c.work.places c.chains.lines c.chains.shares c.reads c.own c.size };
+    ghost invariant = { λ c. IsKept (record { file = c.file; declared = c.declared; streams = c.streams; order = c.work.order; published = c.work.published; expressions = c.work.expressions; ends = c.chains.ends; next_end = c.next_end; layout = c.chains.layout }) c.chains.lines c.chains.shares c.reads c.size };
 }
 
 impl Catalogue {
@@ -71,7 +70,6 @@ impl Catalogue {
             declared: held.declared,
             streams: held.streams,
             work: held.work,
-            own: held.own,
             chains: held.chains,
             next_end: held.next_end,
             size: held.size,
@@ -131,7 +129,7 @@ impl Catalogue {
     }
 
     /// The numbers of the queries in the order of work.
-    pub fn order(&self) -> &Numbers
+    pub fn order(&self) -> &WorkOrder
         ensures value { result.now ≡ self.now.order }
         ensures stands { StandsInOrder self.now }
     {
@@ -160,6 +158,6 @@ impl Catalogue {
         ensures value { result ≡ position_or_len (λ other. query == other) self.now.order }
         ensures within { result < length self.now.order }
     {
-        *self.work.places.get(query)
+        self.work.order.place_of(query)
     }
 }

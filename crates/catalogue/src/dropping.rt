@@ -10,7 +10,7 @@ use crate::accepted::Catalogue;
 use crate::counting::does_read;
 use crate::fault::DropFault;
 use crate::growing::size_between;
-use crate::leaving::{add_part, leave};
+use crate::leaving::add_part;
 use crate::numbering::Published;
 use crate::sharing::span_at;
 use crate::tallying::{tally_at, untally};
@@ -78,8 +78,7 @@ impl Catalogue {
 
     /// Takes the query with this number out, which none reads, as `drop_query` does. Want of memory changes nothing.
     ///
-    /// It costs the query's own lines, and in each list steps as a logarithm of how much stands there, whichever query it is. Only
-    /// where it, or one behind it in the order of work, isn't its own place there are the numbers behind its own written anew.
+    /// It costs the query's own lines, and in each list steps as a logarithm of how much stands there, whichever query it is.
     pub fn drop_at(&mut self, alloc: Global, query: usize) -> Result<Dropped, Memory>
         requires within { query < length self.old.order }
         requires unread { IsUnread self.old query }
@@ -107,7 +106,7 @@ impl Catalogue {
             None => None,
             Some(stream) => match publisher(&self.work.published, stream) {
                 None => None,
-                Some(place) => Some(*self.work.order.get(place)),
+                Some(place) => Some(self.work.order.get(place)),
             },
         }
     }
@@ -137,7 +136,7 @@ impl Catalogue {
     {
         let place = self.place(query);
         self.streams.retire(self.work.published.get(place).stream);
-        self.own = leave(&mut self.work.order, &mut self.work.places, self.own, query);
+        self.work.order.leave(query);
         self.work.published.remove(place);
         untally(&mut self.reads, self.work.expressions.get(place));
         self.work.expressions.remove(place);

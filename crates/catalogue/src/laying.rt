@@ -7,9 +7,8 @@ ghost use Rattle.catalogue.specs.Parts.{IsAccepted, parts_of};
 use crate::growing::size_of;
 use crate::held_lines::HeldLines;
 use crate::held_queries::HeldQueries;
-use crate::leaving::own_from;
 use crate::numbering::{Published, hide_up_to, number_all};
-use crate::placing::{chains_of, places_in};
+use crate::placing::chains_of;
 use crate::sharing::{Shares, share_all};
 use crate::tallying::tally_all;
 use cel_parser::File;
@@ -18,6 +17,7 @@ use expressions::Expr;
 use splitter::Chains;
 use std::alloc::Global;
 use stream_schema::Streams;
+use work_order::{WorkOrder, places_in};
 
 /// The streams of a file, the numbers of its queries in the order of work, and their expressions in this order.
 #[derive(Drop)]
@@ -27,12 +27,12 @@ pub struct Typed {
     pub expressions: List<Expr>,
 }
 
-/// Of queries in the order of work the places by the queries' numbers, what they publish, their lines with the layout of
-/// these, how many are those of each, and the tallies of what they read; and how many streams are declared.
+/// Of queries their order of work, and in it what they publish, their lines with the layout of these, how many are those of
+/// each, and the tallies of what they read; and how many streams are declared.
 #[derive(Drop)]
 pub struct Laid {
     pub declared: usize,
-    pub places: Numbers,
+    pub order: WorkOrder,
     pub chains: Chains,
     pub published: List<Published>,
     pub shares: Shares,
@@ -45,7 +45,6 @@ pub struct Held {
     pub declared: usize,
     pub streams: Streams,
     pub work: HeldQueries,
-    pub own: usize,
     pub chains: HeldLines,
     pub next_end: usize,
     pub size: usize,
@@ -69,12 +68,13 @@ pub fn lay_out(alloc: Global, file: &File, typed: &Typed) -> Result<Laid, Memory
         &typed.expressions,
         places.as_slice(),
     )?;
+    let order = WorkOrder::of(alloc, &typed.order)?;
     let published = number_all(alloc, declared, &typed.expressions)?;
     let shares = share_all(alloc, &published, &typed.expressions)?;
     let reads = tally_all(alloc, &typed.expressions)?;
     Ok(Laid {
         declared,
-        places,
+        order,
         chains,
         published,
         shares,
@@ -89,24 +89,16 @@ pub fn hold(alloc: Global, many: usize, typed: Typed, laid: Laid) -> Result<Held
     requires few { sum_by (λ line. 1 + length line.hops) laid.chains.lines < 2 ^ 64 }
     ensures { IfOk result (IsHeldOf many typed laid) }
 {
-    let own = own_from(&typed.order);
     let next_end = laid.chains.lines.len();
     let size = size_of(laid.chains.lines.as_slice());
     let mut streams = typed.streams;
     hide_up_to(&mut streams, many, laid.chains.layout.kinds.len())?;
     let chains = HeldLines::of(alloc, laid.chains, laid.shares)?;
-    let work = HeldQueries::of(
-        alloc,
-        typed.order,
-        laid.places,
-        laid.published,
-        typed.expressions,
-    )?;
+    let work = HeldQueries::of(alloc, laid.order, laid.published, typed.expressions)?;
     Ok(Held {
         declared: laid.declared,
         streams,
         work,
-        own,
         chains,
         next_end,
         size,

@@ -1,9 +1,8 @@
-//! The places of queries in the order of work, and the lines of queries that have them.
-ghost use Rattle.std.specs.Prelude.{◌≡◌, ◌≢◌, ◌<◌, AllPairs, IfOk, length};
-ghost use Rattle.std.specs.List.{All};
+//! The lines of queries that have places in the order of work.
+ghost use Rattle.std.specs.Prelude.{◌≡◌, IfOk, length};
 ghost use Rattle.catalogue.specs.Chained.{AreChained, kinds_of_each};
 ghost use Rattle.catalogue.specs.Parts.{IsAccepted, parts_of};
-ghost use Rattle.catalogue.specs.Tables.{HasPlaces};
+ghost use Rattle.work_order.specs.Places.{HasPlaces};
 
 use cel_parser::File;
 use event_types::{KindLists, List, Memory, Numbers};
@@ -11,30 +10,6 @@ use expressions::Expr;
 use splitter::Chains;
 use std::alloc::Global;
 use stream_schema::Streams;
-
-/// For each number its place.
-pub fn places_in(alloc: Global, numbers: &Numbers) -> Result<Numbers, Memory>
-    requires small { All (λ number. number < length numbers.now) numbers.now }
-    requires distinct { AllPairs (λ x y. x ≢ y) numbers.now }
-    ensures { IfOk result (λ places. HasPlaces numbers.now places) }
-{
-    let mut places = zeros(alloc, numbers.len())?;
-    for place in 0..numbers.len() {
-        *places.get_mut(*numbers.get(place)) = place;
-    }
-    Ok(places)
-}
-
-// So many zeros.
-fn zeros(alloc: Global, many: usize) -> Result<Numbers, Memory>
-    ensures { IfOk result (λ numbers. length numbers ≡ many) }
-{
-    let mut numbers: Numbers = List::new(alloc);
-    for _ in 0..many {
-        numbers.add(0)?;
-    }
-    Ok(numbers)
-}
 
 /// The lines and the layout of the queries of these parts, which have these places in the order of work.
 pub fn chains_of(

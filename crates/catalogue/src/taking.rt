@@ -87,7 +87,7 @@ impl Catalogue {
         );
         if let Err(_) = published {
             self.chains.take_back(before);
-            self.work.take_back(queries);
+            self.work.take_back();
             return Err(Memory);
         }
         self.next_end += told.lines.len();

@@ -20,7 +20,7 @@ pub fn plan(alloc: Global, catalogue: &Catalogue) -> Result<Text, Memory>
     let order = catalogue.order();
     let mut text = String::new(alloc);
     for place in 0..order.len() {
-        append_query(&mut text, catalogue, &reads, *order.get(place))?;
+        append_query(&mut text, catalogue, &reads, order.get(place))?;
     }
     Text::make(alloc, text.as_str())
 }

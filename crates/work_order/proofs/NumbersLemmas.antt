@@ -1,12 +1,14 @@
 -- The numbers of queries and their places, and the numbers once one of the queries has left.
-use Rattle.std.proofs.Common.{◌≡◌, ◌≢◌, ◌∙◌, ℕ, zero, suc, ◌+◌, ◌-◌, ◌<◌, ◌≤◌, List, [], ◌∷◌, cond, length, map, get_or, set, take, refl, sym, ap, subst, inl, inr, arith, length-set, get_or-set_same, get_or-set_other}
-use Rattle.std.specs.Prelude.{◌==◌, AllPairs}
+use Rattle.std.proofs.Common.{◌≡◌, ◌≢◌, ◌∙◌, ℕ, zero, suc, ◌+◌, ◌-◌, ◌<◌, ◌≤◌, List, [], ◌∷◌, ◌++◌, cond, length, map, get_or, set, take, refl, sym, ap, subst, inl, inr, arith, length-set, get_or-set_same, get_or-set_other}
+use Rattle.std.specs.Prelude.{◌==◌, AllPairs, Some, slice_get}
 use Rattle.std.specs.List.{position_or_len, remove}
+use Rattle.std.proofs.Math.Seq.{get_or-append_seam}
 use Rattle.std.proofs.lemmas.Bool.{cases_eq, le-ltb, lt-ltb}
-use Rattle.std.proofs.lemmas.List.{ext_get_or, get_or-map, get_or-take, get_or_default, length-map, length-take-le}
+use Rattle.std.proofs.lemmas.List.{ext_get_or, get_or-map, get_or-take, get_or_default, length-map, length-take-le, length_push}
 use Rattle.std.proofs.lemmas.List.Edits.{get_or-remove_below, length-remove}
 use Rattle.std.proofs.lemmas.List.Elements.{Contains-get_or}
 use Rattle.std.proofs.lemmas.List.Sums.{position_or_len_is}
+use Rattle.std.proofs.lemmas.Option.{slice_get-get_or}
 use Rattle.event_types.proofs.NumberLemmas.{is_other, self_equal}
 use Rattle.work_order.specs.Numbers.{AreNumbers, moved_down}
 use Rattle.work_order.specs.Places.{HasFirstPlaces}
@@ -24,6 +26,13 @@ pub map-remove : {X Y : Type 0} (f : X → Y) (xs : List X) (k : ℕ) → k < le
 map-remove f [] k within = absurd (omega (arith, within))
 map-remove f (x ∷ xs) zero within = refl
 map-remove f (x ∷ xs) (suc k) within = ap (λ ys. f x ∷ ys) (map-remove f xs k (omega (arith, within)))
+
+-- where a number more was put last it is the greatest
+pub added_last : (order now : List ℕ) → now ≡ order ++ length order ∷ [] → slice_get now (length now - 1) ≡ Some (length now - 1)
+added_last order now is =
+    let many : length now - 1 ≡ length order = omega (arith, ap length is, length_push order (length order)) in
+    let inside : length order < length now = omega (arith, ap length is, length_push order (length order)) in
+    ap (slice_get now) many ∙ slice_get-get_or now (length order) 0 inside ∙ ap Some (ap (λ ns. get_or ns (length order) 0) is ∙ get_or-append_seam order (length order) [] 0 ∙ sym many)
 
 -- one place more is put
 pub HasFirstPlaces-set : (numbers places : List ℕ) (many number : ℕ) → AllPairs (λ x y. x ≢ y) numbers → many < length numbers → get_or numbers many 0 ≡ number → number < length numbers
@@ -50,6 +59,10 @@ module _ (order : List ℕ) (are : AreNumbers order) where
   place_is number k within is =
       position_or_len_is (λ other. number == other) order k 0 (omega (arith, within)) (λ j before. is_other number (get_or order j 0) (λ same. are.distinct j k 0 before within (sym same ∙ sym is)))
       (λ inside. ap (λ n. number == n) is ∙ self_equal number)
+
+  -- a place is that of its number
+  pub place_back : (k : ℕ) → k < length order → place_in (get_or order k 0) ≡ k
+  place_back k within = place_is (get_or order k 0) k within refl
 
   -- a number stands at its place
   pub stands_at : (number : ℕ) → number < length order → (place_in number < length order) × (get_or order (place_in number) 0 ≡ number)

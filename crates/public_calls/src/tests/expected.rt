@@ -24,13 +24,15 @@ pub fn streams_over(
     heard: &Env,
 ) -> Result<Env, Memory> {
     let mut streams = after(alloc, heard, None)?;
-    for query in catalogue.order().as_slice() {
-        assert!(rt; *query < catalogue.queries());
-        for _ in streams.len()..catalogue.stream_of(*query) {
+    let order = catalogue.order();
+    for place in 0..order.len() {
+        let query = order.get(place);
+        assert!(rt; query < catalogue.queries());
+        for _ in streams.len()..catalogue.stream_of(query) {
             streams.add(List::new(alloc))?;
         }
-        let before = after(alloc, &streams, catalogue.birth_of(*query))?;
-        let tuples = tuples_of(rt, alloc, catalogue, *query, &before)?;
+        let before = after(alloc, &streams, catalogue.birth_of(query))?;
+        let tuples = tuples_of(rt, alloc, catalogue, query, &before)?;
         streams.add(tuples)?;
     }
     Ok(streams)

@@ -1,6 +1,5 @@
-use Rattle.std.proofs.Common.{◌≡◌, ◌∙◌, ℕ, ◌+◌, ◌-◌, ◌<◌, ◌^◌, length, map, get_or, refl, sym, ap, subst, arith}
+use Rattle.std.proofs.Common.{◌≡◌, ◌∙◌, ℕ, ◌+◌, ◌-◌, ◌<◌, ◌^◌, length, map, refl, sym, ap, subst, arith}
 use Rattle.std.proofs.lemmas.List.{length-map}
-use Rattle.std.proofs.lemmas.List.Elements.{Contains-get_or}
 use Rattle.std.specs.List.{All}
 use Rattle.expressions.specs.Views.{ex_of}
 use Rattle.splitter.specs.Chains.{chain_end}
@@ -22,13 +21,11 @@ overflow_sub-declared c =
     omega (arith, sum, size, queries)
 
 -- the numbers are those of queries
-pub places_in-requires-clause-small : goal.places_in-requires-clause-small
-places_in-requires-clause-small c k d within =
-    ((order_numbers (parts_of c.args.file.now c.args.typed.now.streams c.args.typed.now.order c.args.typed.now.expressions) c.requires.accepted).all (get_or c.args.typed.now.order k d)).0 (Contains-get_or c.args.typed.now.order k d within)
+pub places_in-requires : goal.places_in-requires
+places_in-requires c = order_numbers (parts_of c.args.file.now c.args.typed.now.streams c.args.typed.now.order c.args.typed.now.expressions) c.requires.accepted
 
--- no two are the same
-pub places_in-requires-clause-distinct : goal.places_in-requires-clause-distinct
-places_in-requires-clause-distinct c = (order_numbers (parts_of c.args.file.now c.args.typed.now.streams c.args.typed.now.order c.args.typed.now.expressions) c.requires.accepted).distinct
+pub of-requires : goal.of-requires
+of-requires c = order_numbers (parts_of c.args.file.now c.args.typed.now.streams c.args.typed.now.order c.args.typed.now.expressions) c.requires.accepted
 
 -- numbers are left for hidden streams
 pub number_all-requires-clause-room : goal.number_all-requires-clause-room
@@ -75,7 +72,7 @@ returns c =
     let declared = declared_many c.args.file.now c.args.typed.now c.requires.accepted c.requires.typed (c.size.result - c.len.result) c.size.result c.len.result c.size.ensures.value c.len.ensures refl in
     record {
       declared = declared;
-      placed = c.in_ok-places.ensures;
+      ordered = c.in_ok-order.ensures;
       chained = c.in_ok-chains.ensures;
       published = published_are c.args.file.now c.args.typed.now c.requires.accepted c.requires.typed (c.size.result - c.len.result) c.in_ok-published.published declared c.in_ok-published.ensures;
       shared = c.in_ok-shares.ensures;

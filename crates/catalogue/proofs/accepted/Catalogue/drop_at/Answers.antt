@@ -11,7 +11,7 @@ use Rattle.catalogue.proofs.accepted.Catalogue.drop_at.Goals as goal
 pub returns-clause-ok : goal.returns-clause-ok
 returns-clause-ok c =
     let now = c.args.self.now in
-    let held : IsHeld now c.self.inside.work.places c.self.inside.chains.lines c.self.inside.chains.shares c.self.inside.reads = subst (λ (v : Catalogued). IsHeld v c.self.inside.work.places c.self.inside.chains.lines c.self.inside.chains.shares c.self.inside.reads) c.self.view_is c.self.invariant.held in
+    let held : IsHeld now c.self.inside.chains.lines c.self.inside.chains.shares c.self.inside.reads = subst (λ (v : Catalogued). IsHeld v c.self.inside.chains.lines c.self.inside.chains.shares c.self.inside.reads) c.self.view_is c.self.invariant.held in
     let part = c.part_of-part.result in
     let many : part.end - part.first ≡ lines_many (query_in now c.args.query) = omega (arith, c.part_of-part.ensures.first, c.part_of-part.ensures.end) in
     let is : c.take_out.new.self ≡ catalogue_without now c.args.query = c.take_out.ensures in
@@ -28,5 +28,5 @@ returns-clause-ok c =
 pub returns-clause-stands : goal.returns-clause-stands
 returns-clause-stands c =
     let now = c.args.self.now in
-    let held : IsHeld now c.self.inside.work.places c.self.inside.chains.lines c.self.inside.chains.shares c.self.inside.reads = subst (λ (v : Catalogued). IsHeld v c.self.inside.work.places c.self.inside.chains.lines c.self.inside.chains.shares c.self.inside.reads) c.self.view_is c.self.invariant.held in
+    let held : IsHeld now c.self.inside.chains.lines c.self.inside.chains.shares c.self.inside.reads = subst (λ (v : Catalogued). IsHeld v c.self.inside.chains.lines c.self.inside.chains.shares c.self.inside.reads) c.self.view_is c.self.invariant.held in
     subst StandsInOrder (sym c.take_out.ensures) (left_stands now held.stands c.args.query c.requires.within c.requires.unread)

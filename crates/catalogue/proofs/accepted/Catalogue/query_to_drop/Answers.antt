@@ -10,7 +10,7 @@ pub returns-in_ok-reader-in-Some-reader_of-clause-err :
     goal.returns-in_ok-reader-in-Some-reader_of-clause-err
 returns-in_ok-reader-in-Some-reader_of-clause-err c =
     let now = c.args.self.now in
-    let held : IsHeld now c.self.inside.work.places c.self.inside.chains.lines c.self.inside.chains.shares c.self.inside.reads = subst (λ (v : Catalogued). IsHeld v c.self.inside.work.places c.self.inside.chains.lines c.self.inside.chains.shares c.self.inside.reads) c.self.view_is c.self.invariant.held in
+    let held : IsHeld now c.self.inside.chains.lines c.self.inside.chains.shares c.self.inside.reads = subst (λ (v : Catalogued). IsHeld v c.self.inside.chains.lines c.self.inside.chains.shares c.self.inside.reads) c.self.view_is c.self.invariant.held in
     let reader = c.in-Some-reader_of.reader in
     let first : IsFirstReader now (query_in now c.in-Some.query).stream reader = subst (λ (stream : ℕ). IsFirstReader now stream reader) c.stream_of.ensures.value c.in-Some-reader_of.ensures.found in
     record {

@@ -18,8 +18,8 @@ use Rattle.catalogue.proofs.accepted.Catalogue.reader_of.Goals as goal
 pub returns-then-tally_at-eq0-clause-none : goal.returns-then-tally_at-eq0-clause-none
 returns-then-tally_at-eq0-clause-none c = λ number less.
     let now = c.args.self.now in
-    let held : IsHeld now c.self.inside.work.places c.self.inside.chains.lines c.self.inside.chains.shares c.self.inside.reads =
-    subst (λ (v : Catalogued). IsHeld v c.self.inside.work.places c.self.inside.chains.lines c.self.inside.chains.shares c.self.inside.reads) c.self.view_is c.self.invariant.held in
+    let held : IsHeld now c.self.inside.chains.lines c.self.inside.chains.shares c.self.inside.reads =
+    subst (λ (v : Catalogued). IsHeld v c.self.inside.chains.lines c.self.inside.chains.shares c.self.inside.reads) c.self.view_is c.self.invariant.held in
     let none : reads_all c.args.stream now.expressions ≡ 0 = sym (held.tallied c.args.stream) ∙ sym c.tally_at.ensures ∙ c.if-tally_at-eq0.true in
     All-get_or (λ (query : Query). ReadsOnly (λ read. read ≢ c.args.stream) query.expr) (work_in now) (place_of now number) (none_such now held.stands) (at_work now held.stands number less)
     (all_unread c.args.stream now.streams now.published now.expressions none)
@@ -27,7 +27,7 @@ returns-then-tally_at-eq0-clause-none c = λ number less.
 -- a query that reads the stream
 pub returns-then-does_read-clause-found : goal.returns-then-does_read-clause-found
 returns-then-does_read-clause-found c = record {
-  within = (let many = ap (λ (v : Catalogued). length v.order) c.self.view_is in omega (arith, c.loop-query-test.true, c.len-query-end.ensures, many));
+  within = (let many = ap (λ (v : Catalogued). length v.order) c.self.view_is in omega (arith, c.loop-query-test.true, c.len-query-end.ensures.value, many));
   reads = λ leaves.
       let not : reads c.args.stream (ex_of c.expr.result.now) ≡ false = not_read c.args.stream (ex_of c.expr.result.now) (subst (ReadsOnly (λ read. read ≢ c.args.stream)) (sym c.expr.ensures) leaves) in
       let told : reads c.args.stream (ex_of c.expr.result.now) ≡ true = sym c.does_read.ensures ∙ c.if-does_read.true in

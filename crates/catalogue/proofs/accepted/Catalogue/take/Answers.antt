@@ -2,6 +2,7 @@ use Rattle.std.proofs.Common.{◌≡◌, ◌∙◌, ◌+◌, ◌-◌, length, re
 use Rattle.std.proofs.lemmas.List.{length-append}
 use Rattle.std.proofs.lemmas.List.Sums.{sum_by-append}
 use Rattle.automaton.specs.declared.line.Line.{Line}
+use Rattle.work_order.proofs.NumbersLemmas.{added_last}
 use Rattle.catalogue.specs.declared.held_lines.Before.{Before}
 use Rattle.catalogue.specs.declared.held_lines.HeldLines.{HeldLines}
 use Rattle.catalogue.specs.declared.held_queries.HeldQueries.{HeldQueries}
@@ -9,14 +10,13 @@ use Rattle.catalogue.specs.Catalogued.{Catalogued, work_in}
 use Rattle.catalogue.specs.Coming.{HasCome, IsLatest}
 use Rattle.catalogue.specs.Fitting.{MayTell}
 use Rattle.catalogue.specs.HeldParts.{with_lines}
-use Rattle.catalogue.specs.Tables.{AreOwnFrom, IsHeld}
+use Rattle.catalogue.specs.Tables.{IsHeld}
 use Rattle.catalogue.specs.Taking.{IsFit, added_of}
 use Rattle.catalogue.specs.Tallies.{AddsReads}
 use Rattle.expressions.specs.declared.expression.Expr.{Expr}
 use Rattle.expressions.specs.Views.{ex_of}
 use Rattle.catalogue.proofs.ComingLemmas.{come_held, come_of, has_come, kinds_up, made_is}
 use Rattle.catalogue.proofs.HeldPartLemmas.{kept_back, last_is, lines_back, queries_back, view_of}
-use Rattle.catalogue.proofs.OwnLemmas.{own_more}
 use Rattle.catalogue.proofs.ShareLemmas.{shares_even}
 use Rattle.catalogue.proofs.SizeLemmas.{size}
 use Rattle.catalogue.proofs.accepted.Catalogue.take.Goals as goal
@@ -44,6 +44,10 @@ put-requires c =
     let view : Catalogued = view_of c.self.inside.file c.self.inside.declared c.self.inside.streams c.self.inside.work c.self.inside.chains c.self.inside.next_end in
     shares_even (work_in view) c.self.inside.chains.shares c.self.invariant.held.shared
 
+-- the query that was put is the last one
+pub take_back-requires-in-Err-published-2 : goal.take_back-requires-in-Err-published-2
+take_back-requires-in-Err-published-2 c = added_last c.self.inside.work.order c.put-2.new.self.order (ap (λ (w : HeldQueries). w.order) c.in_default.ensures.ok)
+
 -- where there was no memory, the lines are taken back
 pub invariant_of-self-in-Err : goal.invariant_of-self-in-Err
 invariant_of-self-in-Err c =
@@ -51,7 +55,7 @@ invariant_of-self-in-Err c =
     let view : Catalogued = view_of inside.file inside.declared inside.streams inside.work inside.chains inside.next_end in
     let even = shares_even (work_in view) inside.chains.shares c.self.invariant.held.shared in
     let chains : c.take_back.new.self ≡ inside.chains = c.take_back.ensures ∙ lines_back inside.chains c.sizes-before.result c.sizes-before.ensures even c.put.new.self c.in_ok-told.told c.in_ok-put.ensures.ok in
-    kept_back inside.file inside.declared inside.streams inside.work inside.chains inside.next_end inside.reads inside.own inside.size c.self.invariant inside.streams c.put-2.new.self c.take_back.new.self inside.reads refl c.in-Err.ensures.kept chains (λ stream. refl)
+    kept_back inside.file inside.declared inside.streams inside.work inside.chains inside.next_end inside.reads inside.size c.self.invariant inside.streams c.put-2.new.self c.take_back.new.self inside.reads refl c.in-Err.ensures.kept chains (λ stream. refl)
 
 -- and so is the query
 pub invariant_of-self-in-Err-published : goal.invariant_of-self-in-Err-published
@@ -64,8 +68,8 @@ invariant_of-self-in-Err-published c =
     c.take_back-in-Err-published.ensures ∙ lines_back inside.chains c.sizes-before.result c.sizes-before.ensures even c.put.new.self c.in_ok-told.told c.in_ok-put.ensures.ok in
     let work : c.take_back-in-Err-published-2.new.self ≡ inside.work =
     c.take_back-in-Err-published-2.ensures
-    ∙ queries_back inside.work c.put-2.new.self _ c.args.query.expr c.len-queries.result c.in_default.ensures.ok c.len-queries.ensures held.placed.long held.stands.publish held.stands.express in
-    kept_back inside.file inside.declared inside.streams inside.work inside.chains inside.next_end inside.reads inside.own inside.size c.self.invariant c.publish-published.new.streams c.take_back-in-Err-published-2.new.self c.take_back-in-Err-published.new.self c.publish-published.new.reads c.in-Err-published.ensures.kept
+    ∙ queries_back inside.work c.put-2.new.self _ c.args.query.expr c.in_default.ensures.ok held.stands.publish held.stands.express in
+    kept_back inside.file inside.declared inside.streams inside.work inside.chains inside.next_end inside.reads inside.size c.self.invariant c.publish-published.new.streams c.take_back-in-Err-published-2.new.self c.take_back-in-Err-published.new.self c.publish-published.new.reads c.in-Err-published.ensures.kept
     work chains c.in-Err-published.ensures.tallies_kept
 
 -- else the query came
@@ -104,7 +108,7 @@ module _ (c : goal.After-drop-statement-2) where
   tallied =
       let inside = c.self.inside in
       let own : c.get.result.now ≡ c.args.query.expr =
-      last_is inside.work.expressions c.put-2.new.self.expressions c.args.query.expr c.get.result.now c.len-queries.result (ap (λ (w : HeldQueries). w.expressions) c.in_default.ensures.ok) (c.len-queries.ensures ∙ sym c.self.invariant.held.stands.express) c.get.ensures in
+      last_is inside.work.expressions c.put-2.new.self.expressions c.args.query.expr c.get.result.now c.len-queries.result (ap (λ (w : HeldQueries). w.expressions) c.in_default.ensures.ok) (c.len-queries.ensures.value ∙ sym c.self.invariant.held.stands.express) c.get.ensures in
       subst (λ (x : Expr). AddsReads (ex_of x) inside.reads c.publish-published.new.reads) own c.in_default-published.ensures.tallied
 
 -- its lines and the hops on them are few
@@ -129,13 +133,12 @@ pub invariant_of-self-2 : goal.invariant_of-self-2
 invariant_of-self-2 c =
     let inside = c.self.inside in
     let held =
-    come_held (was c) c.self.invariant.held.stands c.args.query (fit_then c) c.args.since (latest_then c) c.in_ok-told.told (grows_then c) inside.work.places inside.chains.lines inside.chains.shares inside.reads c.publish-published.new.reads c.self.invariant.held (tallied c) in
-    let is_held = subst (λ (s : Catalogued × HeldQueries × HeldLines). IsHeld s.0 s.1.places s.2.lines s.2.shares c.publish-published.new.reads) (λ i. (sym (made c) i, sym c.in_default.ensures.ok i, sym c.in_ok-put.ensures.ok i)) held in
+    come_held (was c) c.self.invariant.held.stands c.args.query (fit_then c) c.args.since (latest_then c) c.in_ok-told.told (grows_then c) inside.chains.lines inside.chains.shares inside.reads c.publish-published.new.reads c.self.invariant.held (tallied c) in
+    let is_held = subst (λ (s : Catalogued × HeldLines). IsHeld s.0 s.1.lines s.1.shares c.publish-published.new.reads) (λ i. (sym (made c) i, sym c.in_ok-put.ensures.ok i)) held in
     let lines : size c.put.new.self.lines ≡ size inside.chains.lines + size c.in_ok-told.told.lines =
     ap (λ (h : HeldLines). size h.lines) c.in_ok-put.ensures.ok ∙ sum_by-append (λ (line : Line). 1 + length line.hops) inside.chains.lines c.in_ok-told.told.lines in
     record {
       held = is_held;
-      owned = subst (λ (w : HeldQueries). AreOwnFrom w.order inside.own) (sym c.in_default.ensures.ok) (own_more inside.work.order inside.own c.self.invariant.owned);
       sized = omega (arith, c.self.invariant.sized, lines, c.size_of.ensures, ap size c.as_slice.ensures);
     }
 

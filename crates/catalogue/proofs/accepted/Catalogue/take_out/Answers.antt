@@ -4,10 +4,11 @@ use Rattle.automaton.specs.declared.line.Line.{Line}
 use Rattle.automaton.specs.Layouts.{shrunk}
 use Rattle.stream_schema.specs.Streams.{retired}
 use Rattle.catalogue.specs.Catalogued.{Catalogued, query_in, work_in}
-use Rattle.catalogue.specs.Leaving.{catalogue_without, layout_without, lines_before, lines_up_to, moved_down, place_of, without_part}
+use Rattle.catalogue.specs.Leaving.{catalogue_without, layout_without, lines_before, lines_up_to, place_of, without_part}
+use Rattle.work_order.specs.Numbers.{moved_down}
 use Rattle.catalogue.specs.Sharing.{shares_of, without_share}
 use Rattle.expressions.specs.declared.expression.Expr.{Expr}
-use Rattle.catalogue.specs.Tables.{HasPlaces, IsHeld}
+use Rattle.catalogue.specs.Tables.{IsHeld}
 use Rattle.catalogue.specs.Tallies.{AreTallied}
 use Rattle.catalogue.proofs.TallyLemmas.{tallied_less, tallied_one}
 use Rattle.catalogue.proofs.LeftLemmas.{left_stands, lines_left}
@@ -20,20 +21,20 @@ use Rattle.catalogue.proofs.accepted.Catalogue.take_out.Goals as goal
 -- the stream is there
 pub retire-requires-clause-within : goal.retire-requires-clause-within
 retire-requires-clause-within c =
-    let held : IsHeld c.args.self.now c.self.inside.work.places c.self.inside.chains.lines c.self.inside.chains.shares c.self.inside.reads = subst (λ (v : Catalogued). IsHeld v c.self.inside.work.places c.self.inside.chains.lines c.self.inside.chains.shares c.self.inside.reads) c.self.view_is c.self.invariant.held in
+    let held : IsHeld c.args.self.now c.self.inside.chains.lines c.self.inside.chains.shares c.self.inside.reads = subst (λ (v : Catalogued). IsHeld v c.self.inside.chains.lines c.self.inside.chains.shares c.self.inside.reads) c.self.view_is c.self.invariant.held in
     stream_within c.args.self.now held.stands c.args.query c.requires.within c.self.inside.work.published c.self.inside.streams (ap (λ (v : Catalogued). v.published) c.self.view_is) (ap (λ (v : Catalogued). v.streams) c.self.view_is) c.place-place.result
     c.place-place.ensures.value c.get.result.now c.get.ensures
 
 -- and a query publishes it
 pub retire-requires-clause-published : goal.retire-requires-clause-published
 retire-requires-clause-published c =
-    let held : IsHeld c.args.self.now c.self.inside.work.places c.self.inside.chains.lines c.self.inside.chains.shares c.self.inside.reads = subst (λ (v : Catalogued). IsHeld v c.self.inside.work.places c.self.inside.chains.lines c.self.inside.chains.shares c.self.inside.reads) c.self.view_is c.self.invariant.held in
+    let held : IsHeld c.args.self.now c.self.inside.chains.lines c.self.inside.chains.shares c.self.inside.reads = subst (λ (v : Catalogued). IsHeld v c.self.inside.chains.lines c.self.inside.chains.shares c.self.inside.reads) c.self.view_is c.self.invariant.held in
     stream_published c.args.self.now held.stands c.args.query c.requires.within c.self.inside.work.published c.self.inside.streams (ap (λ (v : Catalogued). v.published) c.self.view_is) (ap (λ (v : Catalogued). v.streams) c.self.view_is) c.place-place.result
     c.place-place.ensures.value c.get.result.now c.get.ensures
 
 -- it is one of those that are numbered
-pub leave-self-inside-requires-clause-there : goal.leave-self-inside-requires-clause-there
-leave-self-inside-requires-clause-there c = let same = ap (λ (v : Catalogued). length v.order) c.self.view_is in omega (arith, c.requires.within, same)
+pub leave-requires : goal.leave-requires
+leave-requires c = let same = ap (λ (v : Catalogued). length v.order) c.self.view_is in omega (arith, c.requires.within, same)
 
 -- its reads are tallied
 pub untally-requires : goal.untally-requires
@@ -49,18 +50,18 @@ overflow_sub-self c =
     omega (arith, c.self.invariant.sized, apart, c.size_between.ensures)
 
 module _ (c : goal.After-shrink) where
-  held : IsHeld c.args.self.now c.self.inside.work.places c.self.inside.chains.lines c.self.inside.chains.shares c.self.inside.reads
-  held = subst (λ (v : Catalogued). IsHeld v c.self.inside.work.places c.self.inside.chains.lines c.self.inside.chains.shares c.self.inside.reads) c.self.view_is c.self.invariant.held
+  held : IsHeld c.args.self.now c.self.inside.chains.lines c.self.inside.chains.shares c.self.inside.reads
+  held = subst (λ (v : Catalogued). IsHeld v c.self.inside.chains.lines c.self.inside.chains.shares c.self.inside.reads) c.self.view_is c.self.invariant.held
 
-  order_is : c.leave-self-inside.new.order ≡ map (moved_down c.args.query) (remove c.args.self.now.order (place_of c.args.self.now c.args.query))
-  order_is = c.leave-self-inside.ensures.order ∙ (λ t. map (moved_down c.args.query) (remove (c.self.view_is t).order (place_of (c.self.view_is t) c.args.query)))
+  order_is : c.leave.new.self ≡ map (moved_down c.args.query) (remove c.args.self.now.order (place_of c.args.self.now c.args.query))
+  order_is = c.leave.ensures ∙ (λ t. map (moved_down c.args.query) (remove (c.self.view_is t).order (place_of (c.self.view_is t) c.args.query)))
 
   -- it is the catalogue without the query
   made : (record {
     file = c.self.inside.file;
     declared = c.self.inside.declared;
     streams = c.retire.new.self;
-    order = c.leave-self-inside.new.order;
+    order = c.leave.new.self;
     published = c.remove.new.self;
     expressions = c.remove-2.new.self;
     ends = c.cut-2.new.self;
@@ -99,16 +100,15 @@ invariant_of-self c =
     let lines : c.cut.new.self ≡ without_part c.self.inside.chains.lines c.args.part.first c.args.part.end = c.cut.ensures in
     let shares : c.remove-3.new.self ≡ shares_of (remove (work_in now) at) =
     c.remove-3.ensures ∙ (λ t. without_share (h.shared t) (c.place-place.ensures.value t)) ∙ shares_less (work_in now) at (at_work now h.stands c.args.query c.requires.within) in
-    let is_held = subst (λ (v : Catalogued). IsHeld v c.leave-self-inside.new.places c.cut.new.self c.remove-3.new.self c.untally.new.tallies) (sym (made c)) (record {
+    let is_held = subst (λ (v : Catalogued). IsHeld v c.cut.new.self c.remove-3.new.self c.untally.new.tallies) (sym (made c)) (record {
       stands = left_stands now h.stands c.args.query c.requires.within c.requires.unread;
-      placed = subst (λ (ns : List ℕ). HasPlaces ns c.leave-self-inside.new.places) (order_is c) c.leave-self-inside.ensures.placed;
       lines_are = lines ∙ (λ t. without_part (h.lines_are t) (c.requires.part.first t) (c.requires.part.end t)) ∙ sym (lines_left now h.stands c.args.query c.requires.within);
       shared = shares ∙ ap shares_of (sym (work_left now h.stands c.args.query c.requires.within));
       tallied = subst (λ (xs : List Expr). AreTallied xs c.untally.new.tallies) (λ t. remove (c.self.view_is t).expressions (c.place-place.ensures.value t))
           (tallied_less c.self.inside.work.expressions c.place-place.result c.get-2.result.now c.get-2.ensures c.self.inside.reads c.self.invariant.held.tallied c.untally.new.tallies c.untally.ensures);
     }) in
     let apart = size_apart c.self.inside.chains.lines c.args.part.first c.args.part.end (omega (arith, c.requires.part.first, c.requires.part.end)) in
-    record { held = is_held; owned = c.leave-self-inside.ensures.own; sized = omega (arith, c.self.invariant.sized, apart, c.size_between.ensures, ap size lines) }
+    record { held = is_held; sized = omega (arith, c.self.invariant.sized, apart, c.size_between.ensures, ap size lines) }
 
 pub returns : goal.returns
 returns c = made c

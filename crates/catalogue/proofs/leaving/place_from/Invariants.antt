@@ -1,6 +1,0 @@
-use Rattle.catalogue.specs.Tables.{HasFirstPlaces}
-use Rattle.catalogue.proofs.leaving.place_from.Given as goal
-
--- the numbers so far have their places
-abbrev pub invariant-loop-place : goal.invariant-loop-place
-invariant-loop-place l = HasFirstPlaces l.numbers l.places l.place
