@@ -1,33 +1,28 @@
 -- What is held by an engine that lines left.
-use Rattle.std.proofs.Common.{◌≡◌, ◌⊎◌, ◌∙◌, sym, ap, refl, subst, inl, inr, ℕ, ◌<◌, ◌≤◌, true, false, cond, length, get_or, take, List, arith}
-use Rattle.std.specs.Prelude.{Contains, Option, Some, None, is_some, slice_index}
+use Rattle.std.proofs.Common.{◌≡◌, ◌⊎◌, ◌∙◌, sym, ap, refl, subst, inl, inr, ℕ, ◌<◌, ◌≤◌, true, cond, length, get_or, take, List, arith}
+use Rattle.std.specs.Prelude.{Option, Some, None, is_some, slice_index}
 use Rattle.std.specs.List.{All}
 use Rattle.std.specs.Option.{option_and_then}
 use Rattle.std.proofs.lemmas.Bool.{cases_lt}
 use Rattle.std.proofs.lemmas.List.{get_or-take, length-take}
-use Rattle.std.proofs.lemmas.List.Elements.{All-contains, All-nil}
+use Rattle.std.proofs.lemmas.List.Elements.{All-nil}
 use Rattle.event_types.specs.declared.kind.Kind.{Kind}
-use Rattle.event_types.specs.declared.value.Value.{Value}
 use Rattle.instances.specs.Keys.{IsKeyReady}
 use Rattle.instances.specs.declared.instance.Instance.{Instance}
 use Rattle.automaton.specs.Networks.{IsNetwork}
 use Rattle.automaton.specs.States.{Net, entrance_at, is_used, wait_at, wait_by}
 use Rattle.automaton.specs.declared.wait.Wait.{Wait}
-use Rattle.binding_index.specs.Among.{is_among}
-use Rattle.binding_index.specs.Leads.{Leads, is_ready_at, ready_in}
+use Rattle.binding_index.specs.Leads.{Leads, ready_in}
 use Rattle.binding_index.specs.declared.store.Store.{Store}
-use Rattle.stream_readers.specs.KeyTables.{AreSwept, IsFoundAt, KeyTable, entries_at}
-use Rattle.stream_readers.proofs.KeyTableLemmas.{tidied_swept}
+use Rattle.stream_readers.specs.KeyTables.{KeyTable, entries_at}
 use Rattle.epoch_draft.specs.Held.{instances_in, key_in}
 use Rattle.epoch_draft.specs.Kindings.{Kinding, StatesFit}
 use Rattle.epoch_draft.specs.Led.{AreLed, StaysReady}
 use Rattle.epoch_draft.specs.Purging.{alive_in}
 use Rattle.epoch_draft.specs.Typed.{IsStoreOf, IsTyped}
 use Rattle.epoch_draft.specs.Watching.{IsWatched, Watches}
-use Rattle.epoch_draft.proofs.Lists.{some_is}
-use Rattle.epoch_draft.proofs.StayLemmas.{led_stay, stays_same}
-use Rattle.epoch_draft.proofs.LedLemmas.{lead_is_first}
-use Rattle.epoch_engine.specs.Fitting.{AreLeft, HaveNoKeys, HaveNoStoresBut, LeaveNoKeys}
+use Rattle.epoch_draft.proofs.StayLemmas.{stays_same}
+use Rattle.epoch_engine.specs.Fitting.{AreLeft}
 use Rattle.epoch_engine.proofs.FitLemmas.{none_waits}
 use Rattle.epoch_engine.proofs.LineLemmas.{waiting_kept, waiting_used}
 
@@ -35,7 +30,7 @@ use Rattle.epoch_engine.proofs.LineLemmas.{waiting_kept, waiting_used}
 stays_none : (slot : Option Store) → StaysReady slot None
 stays_none slot = record { instances = λ ready. All-nil (λ (i : Instance). IsKeyReady (key_in None) (ready_in None) i.tuple); keys = λ key has. absurd (let lt = has.1 in omega (arith, lt)) }
 
-module _ (net left : Net) (kinds : List (List Kind)) (gone : List ℕ) (stores new : List (Option Store)) (typed : IsTyped net kinds stores) (stay : (n : ℕ) → is_used left n ≡ true → entrance_at left n ≡ entrance_at net n) (are : AreLeft left stores new) where
+module _ (net left : Net) (kinds : List (List Kind)) (stores new : List (Option Store)) (typed : IsTyped net kinds stores) (stay : (n : ℕ) → is_used left n ≡ true → entrance_at left n ≡ entrance_at net n) (are : AreLeft left stores new) where
   left_wait : (n : ℕ) (w : Wait) → wait_at left n ≡ Some w → wait_at net n ≡ Some w
   left_wait n w at = ap (option_and_then wait_by) (sym (stay n (waiting_used left n w at))) ∙ at
 
@@ -62,50 +57,12 @@ module _ (net left : Net) (kinds : List (List Kind)) (gone : List ℕ) (stores n
   slot_stays n None at = subst (StaysReady (get_or stores n None)) (sym (left_none n at)) (stays_none (get_or stores n None))
   slot_stays n (Some w) at = subst (StaysReady (get_or stores n None)) (sym (left_slot n w at)) (stays_same (get_or stores n None))
 
-  -- swept keys lead to the states that are left
-  swept_led : (keys swept : KeyTable) → AreLed net keys stores → AreSwept new keys swept → AreLed left swept new
-  swept_led keys swept led is =
-      let after = led_stay net keys swept stores new led (λ n. slot_stays n (wait_at left n) refl) (tidied_swept new keys swept is) in record {
-        fit = λ stream attribute key n leads. found_left stream attribute key n (after.fit stream attribute key n leads) ((is stream attribute key n).0 leads).1 (wait_at left n) refl;
-        led = λ n wait key at by. after.led n wait key (left_wait n wait at) by;
-        ready = after.ready;
-      }
-    where
-      found_left : (stream attribute : ℕ) (key : Value) (n : ℕ) → IsFoundAt net stream attribute n → is_ready_at new n key ≡ true → (o : Option Wait) → wait_at left n ≡ o → IsFoundAt left stream attribute n
-      found_left stream attribute key n found ready None at =
-          absurd (let no : false ≡ true = sym (ap (λ slot. is_among key (ready_in slot)) (left_none n at)) ∙ ready in cc)
-      found_left stream attribute key n found ready (Some w) at =
-          let same : w ≡ found.wait = some_is w found.wait (sym (left_wait n w at) ∙ found.waits) in
-          record { wait = found.wait; waits = at ∙ ap (λ (v : Wait). Some v) same; on = found.on; key = found.key; by = found.by; at = found.at }
-
-  -- so do keys that led to none that left
-  kept_led : (keys : KeyTable) → AreLed net keys stores → HaveNoStoresBut left gone stores → HaveNoKeys gone stores → AreLed left keys new
-  kept_led keys led others keyless = record {
-    fit = λ stream attribute key n leads. found_left stream attribute n (led.fit stream attribute key n leads) (wait_at left n) refl;
+  -- keys that are ready lead to the states that are left
+  pub left_led : (keys : KeyTable) → AreLed net keys stores → AreLed left keys new
+  left_led keys led = record {
     led = λ n wait key at by. subst (λ slot. All (λ value. Leads (entries_at keys wait.stream key.event) value n) (ready_in slot)) (sym (left_slot n wait at)) (led.led n wait key (left_wait n wait at) by);
     ready = λ n. (slot_stays n (wait_at left n) refl).instances (led.ready n);
   }
-    where
-      found_left : (stream attribute n : ℕ) → IsFoundAt net stream attribute n → (o : Option Wait) → wait_at left n ≡ o → IsFoundAt left stream attribute n
-      found_left stream attribute n found None at = absurd (no_store (others n at))
-        where
-          has : (store : Store) × (get_or stores n None ≡ Some store) × IsStoreOf found.wait (typed.kinding.waiting n) store
-          has = typed.has_stores n found.wait found.waits
-
-          keyed : key_in (get_or stores n None) ≡ Some found.key
-          keyed = ap key_in has.1 ∙ has.2.key ∙ lead_is_first found.wait.choose found.key found.by
-
-          no_store : (get_or stores n None ≡ None) ⊎ Contains gone n → ⊥
-          no_store (inl none) = (let no : None ≡ Some has.0 = sym none ∙ has.1 in cc)
-          no_store (inr here) = (let no : None ≡ Some found.key = sym (All-contains (λ number. key_in (get_or stores number None) ≡ None) gone n keyless here) ∙ keyed in cc)
-      found_left stream attribute n found (Some w) at =
-          let same : w ≡ found.wait = some_is w found.wait (sym (left_wait n w at) ∙ found.waits) in
-          record { wait = found.wait; waits = at ∙ ap (λ (v : Wait). Some v) same; on = found.on; key = found.key; by = found.by; at = found.at }
-
-  -- keys lead to the states that are left
-  pub left_led : (keys kept : KeyTable) → AreLed net keys stores → AreSwept new keys kept ⊎ LeaveNoKeys left gone stores keys kept → AreLed left kept new
-  left_led keys kept led (inl swept) = swept_led keys kept led swept
-  left_led keys kept led (inr none) = subst (λ (table : KeyTable). AreLed left table new) (sym none.same) (kept_led keys led none.others none.keyless)
 
   -- the deadlines are theirs
   pub left_watched : (deadlines : List ℕ) → length left ≤ length stores → Watches deadlines stores → Watches (take (length left) deadlines) new

@@ -150,9 +150,6 @@ module _ (net grown : Net) (kinds : List (List Kind)) (stores new : List (Option
   -- keys lead as before
   pub grown_led : (keys : KeyTable) → AreLed net keys stores → AreLed grown keys new
   grown_led keys led = record {
-    fit = λ stream attribute key n leads.
-        (let found = led.fit stream attribute key n leads in
-        record { wait = found.wait; waits = wait_stays net grown stay n found.wait found.waits; on = found.on; key = found.key; by = found.by; at = found.at });
     led = λ n. (grown_led_to keys led n (get_or stores n None) refl (are.each n)).0;
     ready = λ n. (grown_led_to keys led n (get_or stores n None) refl (are.each n)).1;
   }

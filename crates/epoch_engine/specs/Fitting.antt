@@ -1,13 +1,11 @@
 -- Stores that are made to fit a network. No public clause cites this module.
 use Rattle.std.specs.Prelude.{◌≡◌, ⊤, ◌≤◌, ◌⊎◌, ℕ, Contains, if◌then◌else◌, List, [], length, Option, Some, None, is_some, slice_index_or}
 use Rattle.std.specs.Option.{option_map}
-use Rattle.std.specs.List.{All}
 use Rattle.binding_index.specs.Leads.{ready_in}
 use Rattle.binding_index.specs.declared.store.Store.{Store}
 use Rattle.automaton.specs.States.{Net, wait_at}
 use Rattle.automaton.specs.declared.wait.Wait.{Wait}
-use Rattle.stream_readers.specs.KeyTables.{KeyTable}
-use Rattle.epoch_draft.specs.Held.{instances_in, key_in, shape_for, shape_of}
+use Rattle.epoch_draft.specs.Held.{instances_in, shape_for, shape_of}
 
 -- an empty store that is made for a wait, or none where no state waits
 pub record IsEmptyFor (wait : Option Wait) (slot : Option Store) : Type 0 where
@@ -54,13 +52,3 @@ HaveStoresBut net states stores = (number : ℕ) (wait : Wait) → wait_at net n
 -- where no state waits there is no store, but for some of these
 abbrev pub HaveNoStoresBut : Net → List ℕ → List (Option Store) → Type 0
 HaveNoStoresBut net states stores = (number : ℕ) → wait_at net number ≡ None → (slice_index_or stores number None ≡ None) ⊎ Contains states number
-
--- the stores of these numbers have no key
-abbrev pub HaveNoKeys : List ℕ → List (Option Store) → Type 0
-HaveNoKeys numbers stores = All (λ number. key_in (slice_index_or stores number None) ≡ None) numbers
-
--- no store with a key left with these states, and keys lead where they led
-pub record LeaveNoKeys (net : Net) (states : List ℕ) (stores : List (Option Store)) (old new : KeyTable) : Type 0 where
-  pub others : HaveNoStoresBut net states stores
-  pub keyless : HaveNoKeys states stores
-  pub same : new ≡ old

@@ -1,8 +1,7 @@
 //! Stores that are made to fit a network.
-ghost use Rattle.std.specs.Prelude.{◌≡◌, ◌≢◌, ◌<◌, ◌≤◌, ℕ, None, false, if◌then◌else◌, is_some, All, IfOk, OnErr, OnOk, length, slice_index_or};
+ghost use Rattle.std.specs.Prelude.{◌≡◌, ◌≢◌, ◌<◌, ◌≤◌, ℕ, None, if◌then◌else◌, is_some, All, IfOk, OnErr, OnOk, length, slice_index_or};
 ghost use Rattle.automaton.specs.States.{wait_at};
-ghost use Rattle.epoch_draft.specs.Held.{key_in};
-ghost use Rattle.epoch_engine.specs.Fitting.{AreGrown, AreLeft, HaveNoKeys, HaveNoStoresBut, HaveStoresBut, IsEmptyFor, IsGrownSlot, IsPadded, KeepStores};
+ghost use Rattle.epoch_engine.specs.Fitting.{AreGrown, AreLeft, HaveNoStoresBut, HaveStoresBut, IsEmptyFor, IsGrownSlot, IsPadded, KeepStores};
 
 use automaton::Network;
 use binding_index::Store;
@@ -123,29 +122,4 @@ fn is_waiting(network: &Network, number: usize) -> bool
     ensures { result ≡ is_some (wait_at network.now number) }
 {
     network.used(number) && network.wait(number).is_some()
-}
-
-// Whether a store of these numbers has a key.
-pub(crate) fn are_keyed(stores: &Stores, numbers: &[usize]) -> bool
-    ensures { result ≡ false → HaveNoKeys numbers.now stores.now }
-{
-    for number in numbers {
-        if has_key(stores, *number) {
-            return true;
-        }
-    }
-    false
-}
-
-// Whether there is a store with a number, and it has a key.
-fn has_key(stores: &Stores, number: usize) -> bool
-    ensures { result ≡ false → key_in (slice_index_or stores.now number None) ≡ None }
-{
-    if number >= stores.len() {
-        return false;
-    }
-    match stores.get(number) {
-        Some(store) => store.key_places().is_some(),
-        None => false,
-    }
 }

@@ -1,12 +1,11 @@
 //! What an engine keeps from epoch to epoch.
-ghost use Rattle.std.specs.Prelude.{◌≡◌, ◌<◌, ◌≤◌, ◌-◌, ◌++◌, ◌⊎◌, All, IfOk, OnErr, OnOk, false, length, replicate, take};
-ghost use Rattle.stream_readers.specs.KeyTables.{AreSwept};
+ghost use Rattle.std.specs.Prelude.{◌≡◌, ◌<◌, ◌≤◌, ◌-◌, ◌++◌, All, IfOk, OnErr, OnOk, false, length, replicate, take};
 ghost use Rattle.epoch_draft.specs.Led.{AreLed};
 ghost use Rattle.epoch_draft.specs.Stores.{AreNewStores};
 ghost use Rattle.epoch_draft.specs.Watching.{Watches};
-ghost use Rattle.epoch_engine.specs.Fitting.{AreGrown, AreLeft, HaveNoKeys, HaveNoStoresBut, HaveStoresBut, KeepStores, LeaveNoKeys};
+ghost use Rattle.epoch_engine.specs.Fitting.{AreGrown, AreLeft, HaveNoStoresBut, HaveStoresBut, KeepStores};
 
-use crate::fitting::{add_stores, are_keyed, drop_noted, drop_stores};
+use crate::fitting::{add_stores, drop_noted, drop_stores};
 use automaton::Network;
 use deadlines::{Deadlines, NEVER};
 use epoch_draft::{Stores, empty_stores};
@@ -16,7 +15,8 @@ use std::alloc::Global;
 use stream_readers::KeyReaders;
 
 /// The bindings that wait at the states of a network, the keys that lead to them, and for each state a deadline
-/// until which none of its bindings expires; and the states that leave, in a list that is used anew.
+/// until which none of its bindings expires; and the states that leave, in a list that is used anew. Keys may lead
+/// to states that left, until they are swept.
 #[derive(Drop)]
 pub struct Holdings {
     pub stores: Stores,
@@ -77,34 +77,11 @@ impl Holdings {
         self.deadlines.truncate(network.places());
     }
 
-    /// Drops what is held at states that left a network, which are noted. Keys are gone over where one may lead to a state
-    /// that left. Takes no memory.
-    pub(crate) fn shrink(&mut self, network: &Network)
+    /// Drops what is held at states that left a network, by their numbers where these are all noted. The keys stay: one
+    /// that leads to a state that left is passed over, and forgotten as keys are swept. Takes no memory.
+    pub fn shrink(&mut self, network: &Network)
         requires stores { length network.now ≤ length self.old.stores }
         requires deadlines { length self.old.deadlines ≡ length self.old.stores }
-        requires noted { self.old.left.missed ≡ false → HaveNoStoresBut network.now self.old.left.numbers self.old.stores }
-        ensures stores { AreLeft network.now self.old.stores self.new.stores }
-        ensures deadlines { self.new.deadlines ≡ take (length network.now) self.old.deadlines }
-        ensures keys { AreSwept self.new.stores self.old.keys self.new.keys ⊎ LeaveNoKeys network.now self.old.left.numbers self.old.stores self.old.keys self.new.keys }
-    {
-        let led = self.may_be_led();
-        self.drop_gone(network);
-        if led {
-            self.keys.sweep(self.stores.as_slice());
-        }
-    }
-
-    // Whether keys may lead to states that left.
-    fn may_be_led(&self) -> bool
-        ensures { result ≡ false → (self.now.left.missed ≡ false) × HaveNoKeys self.now.left.numbers self.now.stores }
-    {
-        self.left.missed || are_keyed(&self.stores, self.left.numbers.as_slice())
-    }
-
-    // Drops the stores and the deadlines of the states that left, by their numbers where these are all noted.
-    fn drop_gone(&mut self, network: &Network)
-        requires stores { length network.now ≤ length self.old.stores }
-        requires deadlines { length network.now ≤ length self.old.deadlines }
         requires noted { self.old.left.missed ≡ false → HaveNoStoresBut network.now self.old.left.numbers self.old.stores }
         ensures stores { AreLeft network.now self.old.stores self.new.stores }
         ensures deadlines { self.new.deadlines ≡ take (length network.now) self.old.deadlines }

@@ -11,8 +11,9 @@ use event_types::Numbers;
 
 impl Engine {
     /// Takes the lines of these ends away, with what waits at states that no other line has. The layout without the part is
-    /// one for the lines that stay. Memory is asked for, for the numbers of the states that leave, and where it is wanting all
-    /// states are looked at.
+    /// one for the lines that stay. It costs its ends, the states that leave and what waits there; keys that lead to these
+    /// stay, and are forgotten in a later closing. Memory is asked for, for the numbers of the states that leave, and where
+    /// it is wanting all states are looked at.
     pub fn remove(&mut self, ends: &Numbers, part: Shrinkage)
         requires closed { self.old.time ≡ None }
         requires apart { AllPairs (λ end other. end ≢ other) ends.now }

@@ -1,4 +1,4 @@
-use Rattle.std.proofs.Common.{◌≡◌, ◌∙◌, ◌<◌, ◌⊎◌, cond, map, refl, subst, sym, ℕ, List, [], get_or, length, take, arith}
+use Rattle.std.proofs.Common.{◌≡◌, ◌∙◌, ◌<◌, cond, map, refl, subst, sym, ℕ, List, [], get_or, length, take, arith}
 use Rattle.std.specs.Prelude.{All, is_some}
 use Rattle.std.specs.List.{remove}
 use Rattle.std.proofs.lemmas.Option.{get_or_from_slice_get}
@@ -19,8 +19,8 @@ use Rattle.epoch_engine.specs.Prints.{HasLeft}
 use Rattle.epoch_draft.specs.Watching.{Watches}
 use Rattle.epoch_engine.specs.Adding.{Drops, FitsWithout}
 use Rattle.epoch_engine.specs.EngineView.{EngineView}
-use Rattle.stream_readers.specs.KeyTables.{AreSwept}
-use Rattle.epoch_engine.specs.Fitting.{AreLeft, HaveNoStoresBut, LeaveNoKeys}
+use Rattle.stream_readers.specs.KeyTables.{KeyTable}
+use Rattle.epoch_engine.specs.Fitting.{AreLeft, HaveNoStoresBut}
 use Rattle.epoch_engine.proofs.EngineLemmas.{outs_below, view_of}
 use Rattle.epoch_engine.proofs.KindingLemmas.{fitting_typed}
 use Rattle.epoch_engine.proofs.LeaveLemmas.{left_led, left_typed, left_watched}
@@ -104,7 +104,6 @@ invariant_of-self c =
     let merged : plan.merged ≡ net = c.leave.ensures.merged in
     let same : plan.layout ≡ layout = c.leave.ensures.layout ∙ c.shrink-2.ensures in
     let old = e.holdings.stores in
-    let gone = c.remove_first.new.left.numbers in
     let new = c.shrink.new.self.stores in
     let tuples = c.close.new.self.tuples in
     let typed = c.self.invariant.running.can_draw.typed in
@@ -117,15 +116,14 @@ invariant_of-self c =
       running = record {
         plan_is = c.leave.ensures.is;
         can_draw = subst (λ (x : Net × Layout). CanDraw x.0 x.1 new tuples) (λ i. (sym merged i, sym same i))
-            (drawable net layout new tuples fits settled.network (left_typed e.plan.merged net layout.kinds gone old new typed removed.stay left typing.0 typing.1 settled.network)
+            (drawable net layout new tuples fits settled.network (left_typed e.plan.merged net layout.kinds old new typed removed.stay left typing.0 typing.1 settled.network)
             (c.close.ensures.as_many ∙ c.self.invariant.running.can_draw.as_many) c.close.ensures.empty);
         touched = c.close.ensures.touched;
       };
       led = subst (λ (n : Net). AreLed n c.shrink.new.self.keys new) (sym merged)
-          (left_led e.plan.merged net layout.kinds gone old new typed removed.stay left e.holdings.keys c.shrink.new.self.keys c.self.invariant.led
-          (subst (λ (n : Net). AreSwept new e.holdings.keys c.shrink.new.self.keys ⊎ LeaveNoKeys n gone old e.holdings.keys c.shrink.new.self.keys) value c.shrink.ensures.keys));
+          (subst (λ (table : KeyTable). AreLed net table new) (sym c.shrink.ensures.keys) (left_led e.plan.merged net layout.kinds old new typed removed.stay left e.holdings.keys c.self.invariant.led));
       watches = subst (λ (ds : List ℕ). Watches ds new) (sym deadlines)
-          (left_watched e.plan.merged net layout.kinds gone old new typed removed.stay left e.holdings.deadlines (omega (arith, shorter, many)) c.self.invariant.watches);
+          (left_watched e.plan.merged net layout.kinds old new typed removed.stay left e.holdings.deadlines (omega (arith, shorter, many)) c.self.invariant.watches);
       still = c.fit_room.ensures;
     }
 
