@@ -1,5 +1,5 @@
 //! Which numbers are free.
-ghost use Rattle.std.specs.Prelude.{◌≡◌, ◌<◌, ◌-◌, ℕ, [], ◌∷◌, ◌++◌, IfNone, IfSome, OnErr, OnOk, Some, false, length, slice_get, slice_set, take, true};
+ghost use Rattle.std.specs.Prelude.{◌≡◌, ◌<◌, ℕ, [], ◌∷◌, ◌++◌, IfNone, IfSome, OnErr, OnOk, Some, false, length, slice_get, slice_set, true};
 
 use crate::sum_tree::SumTree;
 use event_types::Memory;
@@ -84,13 +84,5 @@ impl FreeNumbers {
         }
         self.ones.add(self.alloc, 0)?;
         Ok(())
-    }
-
-    /// Drops the last number. Takes no memory.
-    pub fn pop(&mut self)
-        requires { 0 < length self.old }
-        ensures { self.new ≡ take (length self.old - 1) self.old }
-    {
-        self.ones.pop();
     }
 }

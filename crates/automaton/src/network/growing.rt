@@ -1,5 +1,5 @@
 //! Networks that grow and shrink by a state, an edge or an end.
-ghost use Rattle.std.specs.Prelude.{◌≡◌, ◌<◌, ◌≤◌, ◌-◌, ◌+◌, ◌==◌, ◌↔◌, [], IfSome, IsTrue, OnErr, OnOk, Some, count_by, false, length, position, slice_get, take};
+ghost use Rattle.std.specs.Prelude.{◌≡◌, ◌<◌, ◌≤◌, ◌-◌, ◌==◌, ◌↔◌, [], IfSome, IsTrue, OnErr, OnOk, Some, count_by, false, length, position, slice_get, take};
 ghost use Rattle.automaton.specs.Changes.{AddsEnd, AddsHop, AddsRoot, LosesEdge, RemovesEnd, RemovesState};
 ghost use Rattle.automaton.specs.Growing.{IsTakenOver, IsUnedged, LosesEnd, edged, placed, without_last};
 ghost use Rattle.automaton.specs.States.{Net, before_at, edges_at, edges_in, ends_at, ends_in, entrance_at, entrance_in, is_used};
