@@ -7,6 +7,7 @@ use automaton::Network;
 use binding_index::Store;
 use epoch_draft::Stores;
 use event_types::Memory;
+use instances::Waiting;
 use std::alloc::Global;
 
 // Gives an empty store to each waiting state of these numbers that has none; the others have theirs.
@@ -122,4 +123,24 @@ fn is_waiting(network: &Network, number: usize) -> bool
     ensures { result ≡ is_some (wait_at network.now number) }
 {
     network.used(number) && network.wait(number).is_some()
+}
+
+// How many bindings the stores of these numbers have that are found by a key, or 2^64-1 where there are more. Takes no
+// memory.
+pub(crate) fn count_keyed(stores: &Stores, numbers: &[usize]) -> u64 {
+    let mut count: u64 = 0;
+    for number in numbers {
+        if let Some(Some(store)) = stores.as_slice().get(*number) {
+            count = count.saturating_add(keyed_in(store));
+        }
+    }
+    count
+}
+
+// How many bindings a store has, if they are found by a key.
+fn keyed_in(store: &Store) -> u64 {
+    match store.key_places() {
+        Some(_) => store.count(),
+        None => 0,
+    }
 }

@@ -5,7 +5,7 @@ ghost use Rattle.epoch_draft.specs.Stores.{AreNewStores};
 ghost use Rattle.epoch_draft.specs.Watching.{Watches};
 ghost use Rattle.epoch_engine.specs.Fitting.{AreGrown, AreLeft, HaveNoStoresBut, HaveStoresBut, KeepStores};
 
-use crate::fitting::{add_stores, drop_noted, drop_stores};
+use crate::fitting::{add_stores, count_keyed, drop_noted, drop_stores};
 use automaton::Network;
 use deadlines::{Deadlines, NEVER};
 use epoch_draft::{Stores, empty_stores};
@@ -78,7 +78,8 @@ impl Holdings {
     }
 
     /// Drops what is held at states that left a network, by their numbers where these are all noted. The keys stay: one
-    /// that leads to a state that left is passed over, and forgotten as keys are swept. Takes no memory.
+    /// that leads to a state that left is passed over, and forgotten as keys are swept, which comes the sooner the more
+    /// of them are left behind. Takes no memory.
     pub fn shrink(&mut self, network: &Network)
         requires stores { length network.now ≤ length self.old.stores }
         requires deadlines { length self.old.deadlines ≡ length self.old.stores }
@@ -87,6 +88,8 @@ impl Holdings {
         ensures deadlines { self.new.deadlines ≡ take (length network.now) self.old.deadlines }
         ensures keys { self.new.keys ≡ self.old.keys }
     {
+        let lost = count_keyed(&self.stores, self.left.numbers.as_slice());
+        self.keys.lose(lost);
         if self.left.missed {
             self.drop_left(network);
             return;

@@ -18,6 +18,10 @@ use std::marker::Model;
 // How many pairs may come for each that the last sweep left, before the next one.
 const MOST_CAME: u64 = 4;
 
+// For how many that came one is counted that leads to a state which left, so that half of those that the last sweep left
+// may do so before the next one.
+const LOST_AS: u64 = 8;
+
 /// Directories by the places of attributes.
 pub(crate) type Directories = List<Directory>;
 
@@ -96,8 +100,17 @@ impl KeyReaders {
         Ok(())
     }
 
+    /// Notes that a state left whose store had so many bindings with a key, which may lead there. Takes no memory.
+    pub fn lose(&mut self, bindings: u64)
+        ensures { self.new ≡ self.old }
+    {
+        let lost = bindings.saturating_mul(LOST_AS);
+        self.came = self.came.saturating_add(lost);
+    }
+
     /// Lets no key lead to a state whose store isn't ready for it, if more pairs of a key and a state came since
-    /// that was last done than four times as many as there were pairs and streams then. Takes no memory.
+    /// that was last done than four times as many as there were pairs and streams then, where eight are counted for
+    /// each that a state left behind. Takes no memory.
     pub fn tidy(&mut self, stores: &[Option<Store>])
         ensures { AreTidied stores.now self.old self.new }
     {
