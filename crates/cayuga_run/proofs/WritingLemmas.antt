@@ -1,5 +1,5 @@
 -- From accepted queries and what was written to the outcome of a writing.
-use Rattle.std.proofs.Common.{◌≡◌, sym, subst, ℕ, List, [], Option, Some, None, IfSome}
+use Rattle.std.proofs.Common.{◌≡◌, ◌∙◌, sym, subst, ℕ, List, [], Option, Some, None, IfSome}
 use Rattle.cay_host.specs.declared.side.Side.TheVariants.{Queries}
 use Rattle.cay_host.specs.Faults.{Rose}
 use Rattle.cay_host.specs.Files.{file_of}
@@ -10,6 +10,7 @@ use Rattle.cayuga_run.specs.declared.status.Status.{Status}
 use Rattle.cayuga_run.specs.declared.status.Status.TheVariants.{Done, Usage, BadQuery, Cycle, BadEvent, OutOfOrder, AttachFault, ReadFault, WriteFault, TooMuch, Memory, BadControl}
 use Rattle.cayuga_run.specs.Accepting.{IsAcceptedWith}
 use Rattle.cayuga_run.specs.Begun.{HasAccepted}
+use Rattle.cayuga_run.specs.Blaming.{BlamesHost}
 use Rattle.cayuga_run.specs.WritingText.{WritesText}
 use Rattle.cayuga_run.specs.Refusing.{AreNotAccepted}
 use Rattle.cayuga_run.specs.Works.{Writing}
@@ -61,3 +62,11 @@ writing_ends writing judged text old mid new (BadEvent line why) has same writes
 writing_ends writing judged text old mid new (BadControl line why) has same writes kept = writes
 writing_ends writing judged text old mid new (OutOfOrder line at seen) has same writes kept = writes
 writing_ends writing judged text old mid new (TooMuch most) has same writes kept = writes
+
+-- what was accepted before a text is written counts no fault
+pub accepted_blames : {queries : List ℕ} {judged : Judged} {old middle new : Told} {status : Status} → HasAccepted queries judged old middle → BlamesHost middle new status → BlamesHost old new status
+accepted_blames accepted later = record {
+  attach = λ other. later.attach other ∙ accepted.attach_faults;
+  read = λ other. later.read other ∙ accepted.read_faults;
+  write = λ other. later.write other ∙ accepted.write_faults;
+}

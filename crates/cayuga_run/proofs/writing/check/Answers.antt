@@ -1,11 +1,13 @@
-use Rattle.std.proofs.Common.{◌∙◌, ap, map}
+use Rattle.std.proofs.Common.{◌∙◌, ap, map, Bool}
+use Rattle.cay_host.specs.declared.side.Side.{Side}
+use Rattle.cay_host.specs.declared.side.Side.TheVariants.{Events}
 use Rattle.cel_grammar.specs.Views.{statement_of}
 use Rattle.cel_parser.specs.Filed.{Filed}
 use Rattle.cel_print.specs.Spelled.{canon}
 use Rattle.catalogue.specs.Holding.{judged_in}
 use Rattle.cayuga_run.specs.Works.{Writing, canonical_of}
 use Rattle.cayuga_run.proofs.ReadingLemmas.{reads_then_writes}
-use Rattle.cayuga_run.proofs.WritingLemmas.{writing_ends, writing_fails}
+use Rattle.cayuga_run.proofs.WritingLemmas.{accepted_blames, writing_ends, writing_fails}
 use Rattle.cayuga_run.proofs.writing.check.Goals as goal
 
 -- the queries weren't accepted
@@ -25,3 +27,9 @@ returns-in-Ok-print-clause-outcome g c =
 
 pub returns-in-Ok-print-clause-reads : goal.returns-in-Ok-print-clause-reads
 returns-in-Ok-print-clause-reads g c = reads_then_writes c.accept.ensures.reads c.write_text.ensures.same
+
+pub returns-in-Ok-print-clause-blames : goal.returns-in-Ok-print-clause-blames
+returns-in-Ok-print-clause-blames g c = accepted_blames c.in-Ok.ensures.accepted c.write_text.ensures.blames
+
+pub returns-in-Ok-print-clause-events : goal.returns-in-Ok-print-clause-events
+returns-in-Ok-print-clause-events g c = ap (λ (attached : Side → Bool). attached Events) c.write_text.ensures.same.attached ∙ c.accept.ensures.events

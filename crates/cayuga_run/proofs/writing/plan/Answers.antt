@@ -1,9 +1,11 @@
-use Rattle.std.proofs.Common.{◌∙◌}
+use Rattle.std.proofs.Common.{◌∙◌, ap, Bool}
+use Rattle.cay_host.specs.declared.side.Side.{Side}
+use Rattle.cay_host.specs.declared.side.Side.TheVariants.{Events}
 use Rattle.catalogue.specs.Holding.{judged_in}
 use Rattle.cayuga_run.specs.Works.{Writing}
 use Rattle.plan_text.specs.Plan.{plan_of}
 use Rattle.cayuga_run.proofs.ReadingLemmas.{reads_then_writes}
-use Rattle.cayuga_run.proofs.WritingLemmas.{writing_ends, writing_fails}
+use Rattle.cayuga_run.proofs.WritingLemmas.{accepted_blames, writing_ends, writing_fails}
 use Rattle.cayuga_run.proofs.writing.plan.Goals as goal
 
 -- the queries weren't accepted
@@ -23,3 +25,9 @@ returns-in-Ok-plan-clause-outcome g c =
 
 pub returns-in-Ok-plan-clause-reads : goal.returns-in-Ok-plan-clause-reads
 returns-in-Ok-plan-clause-reads g c = reads_then_writes c.accept.ensures.reads c.write_text.ensures.same
+
+pub returns-in-Ok-plan-clause-blames : goal.returns-in-Ok-plan-clause-blames
+returns-in-Ok-plan-clause-blames g c = accepted_blames c.in-Ok.ensures.accepted c.write_text.ensures.blames
+
+pub returns-in-Ok-plan-clause-events : goal.returns-in-Ok-plan-clause-events
+returns-in-Ok-plan-clause-events g c = ap (λ (attached : Side → Bool). attached Events) c.write_text.ensures.same.attached ∙ c.accept.ensures.events
