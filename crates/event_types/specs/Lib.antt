@@ -1,3 +1,4 @@
+pub mod formers
 pub mod Held
 pub mod Kept
 pub mod KindWord
