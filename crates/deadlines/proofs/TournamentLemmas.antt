@@ -1,13 +1,14 @@
 -- Tournament trees: what is under a node, and the way down to a leaf.
-use Rattle.std.proofs.Common.{◌≡◌, ◌∙◌, sym, ap, refl, subst, ℕ, zero, suc, ◌+◌, ◌*◌, ◌/◌, ◌-◌, ◌^◌, ◌<◌, ◌≤◌, ◌⊎◌, inl, inr, get_or, length, min, replicate, set, take, List, [], ◌∷◌, ◌++◌, append_assoc, length-set, length-take, arith}
-use Rattle.std.proofs.Math.Nat.{mul-le-mul_left, pow-suc}
+use Rattle.std.proofs.Common.{◌≡◌, ◌∙◌, sym, ap, refl, subst, ℕ, zero, suc, ◌+◌, ◌*◌, ◌/◌, ◌-◌, ◌^◌, ◌<◌, ◌≤◌, ◌⊎◌, inl, inr, get_or, length, min, drop, replicate, set, take, List, [], ◌∷◌, ◌++◌, append_assoc, length-set, length-take, arith}
+use Rattle.std.proofs.Math.Nat.{mul-le-mul_left, mul-le-mul_right, pow-suc}
+use Rattle.std.proofs.Math.Seq.{drop-append_seam, drop-nil, take-add}
 use Rattle.std.proofs.lemmas.Bool.{cases_lt}
 use Rattle.std.proofs.lemmas.Grind.{get_or_default_zero}
 use Rattle.std.proofs.lemmas.Nat.{pow_pos}
-use Rattle.std.proofs.lemmas.List.{get_or-drop, get_or-take, length-drop}
-use Rattle.std.proofs.lemmas.List.Elements.{All-from_get_or, All-same}
-use Rattle.std.specs.List.{All}
-use Rattle.deadlines.specs.Tournament.{IsLesser, IsTournament, leaves_of}
+use Rattle.std.proofs.lemmas.List.{drop-replicate, drop-set-lt, get_or-drop, get_or-replicate, get_or-take, length-drop, length-take-le, replicate-append-replicate, take-append-drop, take-replicate}
+use Rattle.std.proofs.lemmas.List.Elements.{All-from_get_or, All-same, Contains-get_or}
+use Rattle.std.specs.List.{All, Contains}
+use Rattle.deadlines.specs.Tournament.{AreFree, IsLesser, IsTournament, leaves_of}
 
 module _ (nodes : List ℕ) (lesser : (node : ℕ) → 0 < node → 2 * node < length nodes → IsLesser nodes node) where
   -- what is at most each number under either child is at most each under the node
@@ -60,6 +61,83 @@ root_least nodes root leaf tree is within =
     let long = length-drop (length nodes / 2) nodes in
     let least = least_under nodes tree.lesser tree.height 1 (length nodes / 2 + leaf) (omega arith) (omega (arith, size)) (omega (arith, size, long, within)) (omega (arith, size)) in
     rw get_or-drop (omega (arith, least, same, is))
+
+-- some number that stands under a node at one depth is the node's; by induction on the depth
+least_is_one : (nodes : List ℕ) → ((node : ℕ) → 0 < node → 2 * node < length nodes → IsLesser nodes node) → (depth node : ℕ) → 0 < node → (node + 1) * 2 ^ depth ≤ length nodes
+    → (under : ℕ) × (node * 2 ^ depth ≤ under) × (under < (node + 1) * 2 ^ depth) × (get_or nodes under 0 ≡ get_or nodes node 0)
+least_is_one nodes lesser zero node pos fits = (node, omega arith, omega arith, refl)
+least_is_one nodes lesser (suc depth) node pos fits = go (cases_lt left right) (least_is_one nodes lesser depth (2 * node)) (least_is_one nodes lesser depth (2 * node + 1))
+  where
+    left : ℕ
+    left = get_or nodes (2 * node) 0
+
+    right : ℕ
+    right = get_or nodes (2 * node + 1) 0
+
+    span : ℕ
+    span = 2 ^ depth
+
+    double : 2 ^ suc depth ≡ span * 2
+    double = pow-suc 2 depth
+
+    wide : (node + 1) * (span * 2) ≤ length nodes
+    wide = subst (λ s. (node + 1) * s ≤ length nodes) double fits
+
+    is : get_or nodes node 0 ≡ min left right
+    is = lesser node pos (let some = pow_pos depth in let more = mul-le-mul_left (2 * node + 2) some in omega (arith, more, wide))
+
+    -- one under a child is under the node
+    up : (child under : ℕ) → node * 2 ≤ child → child ≤ node * 2 + 1 → child * span ≤ under → under < (child + 1) * span → (node * 2 ^ suc depth ≤ under) × (under < (node + 1) * 2 ^ suc depth)
+    up child under low high from to =
+        (subst (λ s. node * s ≤ under) (sym double) (let less = mul-le-mul_right span low in omega (arith, less, from)), subst (λ s. under < (node + 1) * s) (sym double) (let more = mul-le-mul_right span high in omega (arith, more, to)))
+
+    go : (left < right) ⊎ (right ≤ left)
+        → (0 < 2 * node → (2 * node + 1) * span ≤ length nodes → (under : ℕ) × (2 * node * span ≤ under) × (under < (2 * node + 1) * span) × (get_or nodes under 0 ≡ left))
+        → (0 < 2 * node + 1 → (2 * node + 1 + 1) * span ≤ length nodes → (under : ℕ) × ((2 * node + 1) * span ≤ under) × (under < (2 * node + 1 + 1) * span) × (get_or nodes under 0 ≡ right))
+        → (under : ℕ) × (node * 2 ^ suc depth ≤ under) × (under < (node + 1) * 2 ^ suc depth) × (get_or nodes under 0 ≡ get_or nodes node 0)
+    go (inl less) by_left by_right =
+        let one = by_left (omega (arith, pos)) (omega (arith, wide)) in
+        let within = up (2 * node) one.0 (omega arith) (omega arith) one.1 one.2 in
+        (one.0, within.0, within.1, (let same = one.3 in omega (arith, same, is, less)))
+    go (inr less) by_left by_right =
+        let one = by_right (omega arith) (omega (arith, wide)) in
+        let within = up (2 * node + 1) one.0 (omega arith) (omega arith) one.1 one.2 in
+        (one.0, within.0, within.1, (let same = one.3 in omega (arith, same, is, less)))
+
+-- the root's number is that of a leaf
+root_is_one : (nodes : List ℕ) → IsTournament nodes → (leaf : ℕ) × (leaf < length (leaves_of nodes)) × (get_or (leaves_of nodes) leaf 0 ≡ get_or nodes 1 0)
+root_is_one nodes tree =
+    let size = tree.size in
+    let some = pow_pos tree.height in
+    let one = least_is_one nodes tree.lesser tree.height 1 (omega arith) (omega (arith, size)) in
+    let long = length-drop (length nodes / 2) nodes in
+    let from = one.1 in
+    let to = one.2 in
+    let there : length nodes / 2 + (one.0 - length nodes / 2) ≡ one.0 = omega (arith, size, from) in
+    (one.0 - length nodes / 2, omega (arith, size, long, from, to), get_or-drop (length nodes / 2) nodes (one.0 - length nodes / 2) 0 ∙ ap (λ n. get_or nodes n 0) there ∙ one.3)
+
+-- where the leaves from a place on are free, it is that of a leaf before the place, or of a free one
+pub root_found : (nodes : List ℕ) (places root : ℕ) → IsTournament nodes → root ≡ get_or nodes 1 root → places ≤ length (leaves_of nodes) → AreFree places (leaves_of nodes) → (root ≡ 2 ^ 128 - 1) ⊎ Contains (take places (leaves_of nodes)) root
+root_found nodes places root tree is within free = go (root_is_one nodes tree) (λ leaf. cases_lt leaf places)
+  where
+    leaves : List ℕ
+    leaves = leaves_of nodes
+
+    value : get_or nodes 1 0 ≡ root
+    value = (let size = tree.size in let some = pow_pos tree.height in let same = get_or_default_zero nodes 1 root (omega (arith, size, some)) in sym same) ∙ sym is
+
+    go : ((leaf : ℕ) × (leaf < length leaves) × (get_or leaves leaf 0 ≡ get_or nodes 1 0)) → ((leaf : ℕ) → (leaf < places) ⊎ (places ≤ leaf)) → (root ≡ 2 ^ 128 - 1) ⊎ Contains (take places leaves) root
+    go one cases = by (cases one.0)
+      where
+        by : (one.0 < places) ⊎ (places ≤ one.0) → (root ≡ 2 ^ 128 - 1) ⊎ Contains (take places leaves) root
+        by (inl early) =
+            let long = length-take-le places leaves within in
+            let is_root = get_or-take places leaves one.0 0 early ∙ one.2 ∙ value in
+            inr (subst (Contains (take places leaves)) is_root (Contains-get_or (take places leaves) one.0 0 (omega (arith, long, early))))
+        by (inr late) =
+            let there : places + (one.0 - places) ≡ one.0 = omega (arith, late) in
+            let free_one = sym (get_or-drop places leaves (one.0 - places) 0) ∙ ap (λ xs. get_or xs (one.0 - places) 0) free ∙ get_or-replicate (length leaves - places) (one.0 - places) (2 ^ 128 - 1) 0 (let below = one.1 in omega (arith, below, late)) in
+            inl (sym value ∙ sym one.2 ∙ ap (λ n. get_or leaves n 0) (sym there) ∙ free_one)
 
 -- the step to a child: the left one where it has at most that number, else the right one
 module _ (nodes : List ℕ) (most node : ℕ) (tree : IsTournament nodes) (inner : node < length nodes / 2) (here : LeadsTo nodes most node) where
@@ -143,11 +221,18 @@ next_written [] place rest d n v lt is = absurd (omega arith)
 next_written (x ∷ xs) zero rest d n v lt is = ap (λ y. y ∷ replicate rest n) is
 next_written (x ∷ xs) (suc place) rest d n v lt is = ap (λ ys. x ∷ ys) (next_written xs place rest d n v (omega (arith, lt)) is)
 
+-- what is left out of a list in two goes
+drop-add : (m n : ℕ) (xs : List ℕ) → drop (m + n) xs ≡ drop n (drop m xs)
+drop-add zero n xs = ap (λ k. drop k xs) (let e : 0 + n ≡ n = omega arith in e)
+drop-add (suc m) n [] = drop-nil (suc m + n) ∙ sym (drop-nil n)
+drop-add (suc m) n (x ∷ xs) = ap (λ k. drop k (x ∷ xs)) (let e : suc m + n ≡ suc (m + n) = omega arith in e) ∙ drop-add m n xs
+
 -- the leaves from one place on are written up to another
 pub record FilledTo (start end number : ℕ) (old new : List ℕ) : Type 0 where
   pub tree : IsTournament new
   pub as_many : length (leaves_of new) ≡ length (leaves_of old)
   pub filled : take end (leaves_of new) ≡ take start (leaves_of old) ++ replicate (end - start) number
+  pub others : drop end (leaves_of new) ≡ drop end (leaves_of old)
 
 -- one place more is taken of a list in which it was written
 take_written : (xs : List ℕ) (place number : ℕ) → place < length xs → take (suc place) (set xs place number) ≡ take place xs ++ number ∷ []
@@ -172,4 +257,32 @@ fill_next start end number old was new later within filled tree is =
       filled =
           ap (take (end + 1)) is ∙ ap (λ n. take n (set (leaves_of was) end number)) next ∙ take_written (leaves_of was) end number (omega (arith, long, within)) ∙ ap (λ xs. xs ++ number ∷ []) filled.filled
           ∙ append_assoc (take start (leaves_of old)) (replicate (end - start) number) (number ∷ []) ∙ ap (λ xs. take start (leaves_of old) ++ xs) (one_copy (end - start) number ∙ ap (λ n. replicate n number) count);
+      others = ap (drop (end + 1)) is ∙ drop-set-lt (end + 1) (leaves_of was) end number (omega arith) ∙ drop-add end 1 (leaves_of was) ∙ ap (drop 1) filled.others ∙ sym (drop-add end 1 (leaves_of old));
     }
+
+-- where leaves are made free up to a place from which on they were, they are from the first of these on
+pub free_after : (old new : List ℕ) (start end : ℕ) → start ≤ end → end ≤ length old → length new ≡ length old
+    → take end new ≡ take start old ++ replicate (end - start) (2 ^ 128 - 1) → drop end new ≡ drop end old → AreFree end old → AreFree start new
+free_after old new start end later within many filled others free =
+    let front = length-take-le start old (omega (arith, later, within)) in
+    let count : end - start + (length old - end) ≡ length new - start = omega (arith, later, within, many) in
+    ap (drop start) (sym (take-append-drop end new) ∙ (λ i. filled i ++ (others ∙ free) i) ∙ append_assoc (take start old) (replicate (end - start) (2 ^ 128 - 1)) (replicate (length old - end) (2 ^ 128 - 1)))
+    ∙ ap (λ n. drop n (take start old ++ (replicate (end - start) (2 ^ 128 - 1) ++ replicate (length old - end) (2 ^ 128 - 1)))) (sym front)
+    ∙ drop-append_seam (take start old) (replicate (end - start) (2 ^ 128 - 1) ++ replicate (length old - end) (2 ^ 128 - 1))
+    ∙ replicate-append-replicate (end - start) (length old - end) (2 ^ 128 - 1)
+    ∙ ap (λ n. replicate n (2 ^ 128 - 1)) count
+
+-- so many more of the leaves are free ones, where there are so many
+pub more_taken : (leaves : List ℕ) (place more : ℕ) → place + more ≤ length leaves → AreFree place leaves → take (place + more) leaves ≡ take place leaves ++ replicate more (2 ^ 128 - 1)
+more_taken leaves place more within free =
+    take-add place more leaves ∙ ap (λ xs. take place leaves ++ xs) (ap (take more) free ∙ take-replicate more (length leaves - place) (2 ^ 128 - 1) (omega (arith, within)))
+
+-- and the rest is free still
+pub less_free : (leaves : List ℕ) (place more : ℕ) → AreFree place leaves → AreFree (place + more) leaves
+less_free leaves place more free =
+    drop-add place more leaves ∙ ap (drop more) free ∙ drop-replicate more (length leaves - place) (2 ^ 128 - 1) ∙ ap (λ n. replicate n (2 ^ 128 - 1)) (let less : length leaves - place - more ≡ length leaves - (place + more) = omega arith in less)
+
+-- a leaf before the place is written
+pub set_free : (leaves : List ℕ) (place leaf number : ℕ) → leaf < place → AreFree place leaves → AreFree place (set leaves leaf number)
+set_free leaves place leaf number before free =
+    drop-set-lt place leaves leaf number before ∙ free ∙ ap (λ n. replicate (n - place) (2 ^ 128 - 1)) (sym (length-set leaves leaf number))

@@ -1,9 +1,13 @@
 -- Tournament trees: numbers behind their minima, two by two. No public clause cites this module.
-use Rattle.std.specs.Prelude.{◌≡◌, ℕ, ◌+◌, ◌*◌, ◌/◌, ◌^◌, ◌<◌, ◌≢◌, List, drop, length, min, slice_index}
+use Rattle.std.specs.Prelude.{◌≡◌, ℕ, ◌+◌, ◌-◌, ◌*◌, ◌/◌, ◌^◌, ◌<◌, ◌≢◌, List, drop, length, min, replicate, slice_index}
 
 -- the leaves: the second half of the nodes
 abbrev pub leaves_of : List ℕ → List ℕ
 leaves_of nodes = drop (length nodes / 2) nodes
+
+-- the leaves from a place on are free: each has the greatest number of 128 bits, which is no deadline
+abbrev pub AreFree : ℕ → List ℕ → Type 0
+AreFree place leaves = drop place leaves ≡ replicate (length leaves - place) (2 ^ 128 - 1)
 
 -- the number of a node is the lesser of those of its two children
 abbrev pub IsLesser : List ℕ → ℕ → Type 0

@@ -1,5 +1,5 @@
 //! Deadlines by place.
-ghost use Rattle.std.specs.Prelude.{◌≡◌, ◌<◌, ◌≤◌, ◌++◌, ℕ, All, IfNone, IfOk, IfSome, OnErr, OnOk, length, replicate, slice_index, slice_set, take};
+ghost use Rattle.std.specs.Prelude.{◌≡◌, ◌⊎◌, ◌<◌, ◌≤◌, ◌++◌, ℕ, All, Contains, IfNone, IfOk, IfSome, OnErr, OnOk, length, replicate, slice_index, slice_set, take};
 ghost use Rattle.std.specs.List.{swap};
 
 use crate::tournament::{fill_leaves, first_leaf, set_leaf};
@@ -13,7 +13,7 @@ pub const NEVER: u128 = u128::MAX;
 /// A deadline for each of so many places, which are counted from 0.
 ///
 /// It is a tournament tree: the deadlines stand behind their minima, two by two, so the earliest is the root.
-/// The children of node n are 2n and 2n+1, and the root is node 1.
+/// The children of node n are 2n and 2n+1, and the root is node 1. A leaf that is no place has no deadline.
 #[derive(Drop)]
 pub struct Deadlines {
     nodes: Vec<u128>,
@@ -23,13 +23,13 @@ pub struct Deadlines {
 
 impl Model for Deadlines {
     ghost use Rattle.std.specs.Prelude.{◌≤◌, ℕ, List, length, take};
-    ghost use Rattle.deadlines.specs.Tournament.{IsTournament, leaves_of};
+    ghost use Rattle.deadlines.specs.Tournament.{AreFree, IsTournament, leaves_of};
 
     ghost Value = { List ℕ };
 
     ghost view = { λ d. take d.places (leaves_of d.nodes.items) };
 
-    ghost invariant = { λ d. IsTournament d.nodes.items × (d.places ≤ length (leaves_of d.nodes.items)) };
+    ghost invariant = { λ d. IsTournament d.nodes.items × (d.places ≤ length (leaves_of d.nodes.items)) × AreFree d.places (leaves_of d.nodes.items) };
 }
 
 impl Deadlines {
@@ -54,9 +54,10 @@ impl Deadlines {
         self.places
     }
 
-    /// A time before which there is no deadline: the earliest, as far as one is. Takes no memory.
+    /// The earliest deadline, or `NEVER` where no place has one. Takes no memory.
     pub fn earliest(&self) -> u128
-        ensures { All (λ deadline. result ≤ deadline) self.now }
+        ensures all { All (λ deadline. result ≤ deadline) self.now }
+        ensures found { (result ≡ NEVER) ⊎ Contains self.now result }
     {
         self.nodes[1]
     }
@@ -100,7 +101,6 @@ impl Deadlines {
             return Err(Memory);
         };
         if places <= self.nodes.len() / 2 {
-            fill_leaves(&mut self.nodes, self.places, places, NEVER);
             self.places = places;
             return Ok(());
         }

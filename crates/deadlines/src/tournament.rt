@@ -1,5 +1,5 @@
 //! A tournament tree: numbers behind their minima, two by two.
-ghost use Rattle.std.specs.Prelude.{◌≡◌, ◌<◌, ◌≤◌, ◌-◌, ◌++◌, ℕ, length, replicate, slice_index, slice_set, take};
+ghost use Rattle.std.specs.Prelude.{◌≡◌, ◌<◌, ◌≤◌, ◌-◌, ◌++◌, ℕ, drop, length, replicate, slice_index, slice_set, take};
 ghost use Rattle.deadlines.specs.Tournament.{IsTournament, leaves_of};
 
 /// Writes a number into a leaf. The leaves are counted from 0. Takes no memory.
@@ -29,6 +29,7 @@ pub(crate) fn fill_leaves(nodes: &mut [u128], from: usize, to: usize, number: u1
     ensures tournament { IsTournament nodes.new }
     ensures as_many { length (leaves_of nodes.new) ≡ length (leaves_of nodes.old) }
     ensures filled { take to (leaves_of nodes.new) ≡ take from (leaves_of nodes.old) ++ replicate (to - from) number }
+    ensures others { drop to (leaves_of nodes.new) ≡ drop to (leaves_of nodes.old) }
 {
     for leaf in from..to {
         set_leaf(nodes, leaf, number);

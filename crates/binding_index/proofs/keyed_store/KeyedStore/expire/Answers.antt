@@ -53,4 +53,4 @@ returns-clause-oldest c =
     c.keep_all_alive-self-inside.ensures.purged c.keep_all_alive-self-inside.result c.keep_all_alive-self-inside.new.starts c.keep_all_alive-self-inside.ensures.starts c.keep_all_alive-self-inside.ensures.room c.keep_all_alive-self-inside.ensures.within c.keep_all_alive-self-inside.ensures.split c.forget_from.ensures in
     start_in_order c.min.result c.forget_from.new.buckets.entries are.distinct
     (all_from c.min.result c.keep_all_alive-self-inside.new.starts c.forget_from.new.buckets.entries
-    (All-weaker (λ (start : ℕ). c.earliest.result ≤ start) (λ (start : ℕ). c.min.result ≤ start) (λ start le. omega (arith, le, c.min.ensures)) c.keep_all_alive-self-inside.new.starts c.earliest.ensures) are.room are.start)
+    (All-weaker (λ (start : ℕ). c.earliest.result ≤ start) (λ (start : ℕ). c.min.result ≤ start) (λ start le. omega (arith, le, c.min.ensures)) c.keep_all_alive-self-inside.new.starts c.earliest.ensures.all) are.room are.start)
