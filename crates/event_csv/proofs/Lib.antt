@@ -12,6 +12,7 @@ pub mod NumberFacts
 pub mod PlaceFacts
 pub mod PlainLines
 pub mod QuickFacts
+pub mod QuoteFacts
 pub mod ReadBackFacts
 pub mod RecordFacts
 pub mod RoundFacts

@@ -23,7 +23,8 @@ abbrev pub plain_step : Bool → State × Action
 plain_step true = (st.StartField, act.EndField)
 plain_step false = (st.InField, act.Copy)
 
-not_either : (q l : Bool) → not (q || l) ≡ true → (q ≡ false) × (l ≡ false)
+-- neither of two
+pub not_either : (q l : Bool) → not (q || l) ≡ true → (q ≡ false) × (l ≡ false)
 not_either false false h = (refl, refl)
 not_either false true h = cc
 not_either true l h = cc

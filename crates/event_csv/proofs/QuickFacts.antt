@@ -1,6 +1,6 @@
 -- Fields at the front of a text, by the bytes that they end before.
 use Rattle.std.proofs.Common.{◌≡◌, ◌∙◌, ℕ, zero, suc, ◌+◌, ◌*◌, ◌-◌, ◌<◌, ◌≤◌, Bool, true, false, List, [], ◌∷◌, ◌++◌, length, take, drop, get_or, refl, subst, sym, ap, arith, add-one, cond, drop-cons, Bor, IfSome, append-nil, append_assoc, length-append, eq-eqb, ◌^◌, Option, Some, None, Ok, option_map, ltb-true}
-use Rattle.std.specs.Prelude.{◌==◌, IsUtf8, neg_ℤ, not, nat_le, nat_lt, pos, slice_get}
+use Rattle.std.specs.Prelude.{◌==◌, IsUtf8, neg_ℤ, nat_le, nat_lt, pos, slice_get}
 use Rattle.std.specs.Char.{digit_value, is_ascii_digit}
 use Rattle.std.specs.List.{list_all}
 use Rattle.std.specs.Str.{IsAscii}
@@ -15,20 +15,22 @@ use Rattle.std.proofs.lemmas.Str.{IsAscii-append, IsUtf8-append, IsUtf8-from_asc
 use Rattle.std.proofs.lemmas.List.Folds.{list_all_more}
 use Rattle.std.proofs.lemmas.List.Sums.{sum_by-cons}
 use Rattle.event_csv.specs.Lines.{is_line_feed}
-use Rattle.csv.specs.Machine.{Read, line_feed, next_record}
+use Rattle.csv.specs.Machine.{Read, line_feed, next_record, step}
 use Rattle.csv.specs.Reading.{strip_bom}
+use Rattle.csv.specs.declared.parser.Action.TheVariants as act
 use Rattle.csv.specs.declared.parser.State.TheVariants as st
-use Rattle.event_csv.specs.Fed.{line_feeds_in}
-use Rattle.event_csv.specs.Fields.{comma, is_plain, line_config, line_fields, quote}
-use Rattle.event_csv.specs.Event.{Span, declared_stream, fields_event, if_declared, span_of, stream_with, values_of}
+use Rattle.event_csv.specs.Fed.{IsLine, line_feeds_in}
+use Rattle.event_csv.specs.Fields.{comma, line_config, line_fields, quote}
+use Rattle.event_csv.specs.Event.{Span, declared_stream, event, fields_event, if_declared, span_of, stream_with, values_of, record_event}
 use Rattle.event_csv.specs.Numbers.{are_digits, int_of, number_up_to, time_of}
 use Rattle.event_types.specs.declared.kind.Kind.{Kind}
 use Rattle.event_types.specs.declared.value.Value.{Value}
 use Rattle.event_types.specs.declared.value.Value.TheVariants as value
 use Rattle.stream_schema.specs.Schema.{Attr, kinds_of}
 use Rattle.stream_schema.specs.Streams.{Entry, declared_of, number_of, schemas_of}
-use Rattle.event_csv.specs.Quick.{HasDigits, IntFirst, IsFirst, IsPlainEnd, IsQuoteAt, IsQuoted, IsText, NumberFirst, SpanFirst, StreamFirst, ValueFirst, WriteAll, is_simple, no_quote, read_left}
-use Rattle.event_csv.proofs.PlainLines.{field_state, step-plain}
+use Rattle.event_csv.specs.Quick.{HasDigits, IntFirst, IsFirst, IsPlainEnd, IsRest, IsText, NoQuoteFirst, NumberFirst, SpanFirst, StreamFirst, ValueFirst, WriteAll, is_inner, no_quote, read_left}
+use Rattle.event_csv.proofs.EventFacts.{event-text}
+use Rattle.event_csv.proofs.PlainLines.{not_either}
 use Rattle.event_csv.proofs.ValueFacts.{onto, onto-ok, read-more, values_of-all}
 use Rattle.event_csv.proofs.DigitFacts.{digit-at, digit_value-is}
 use Rattle.event_types.proofs.NumberLemmas.{is_other}
@@ -73,11 +75,11 @@ ascii-more s i h small ascii =
     rw here (IsAscii-append (take i s) (get_or s i 0 ∷ []) ascii (ascii-one (get_or s i 0) small))
 
 -- a byte of ASCII before a text makes a text
-utf8-before : (b : ℕ) (s : List ℕ) → b < 128 → IsUtf8 s → IsUtf8 (b ∷ s)
+pub utf8-before : (b : ℕ) (s : List ℕ) → b < 128 → IsUtf8 s → IsUtf8 (b ∷ s)
 utf8-before b s small text = IsUtf8-append (b ∷ []) s (IsUtf8-from_ascii (b ∷ []) (ascii-one b small)) text
 
 -- texts around a byte of ASCII make a text
-utf8-around : (s : List ℕ) (i : ℕ) → i < length s → get_or s i 0 < 128 → IsUtf8 (take i s) → IsUtf8 (drop (i + 1) s) → IsUtf8 s
+pub utf8-around : (s : List ℕ) (i : ℕ) → i < length s → get_or s i 0 < 128 → IsUtf8 (take i s) → IsUtf8 (drop (i + 1) s) → IsUtf8 s
 utf8-around s i h small front rest =
     let here : drop i s ≡ get_or s i 0 ∷ drop (i + 1) s = rw (drop-cons s i 0, add-one) refl in
     let whole : take i s ++ drop i s ≡ s = take-append-drop i s in
@@ -94,36 +96,34 @@ digits-ascii (b ∷ s) h =
     let hi : b ≤ 57 = leb-true b 57 e.1 in
     utf8-before b s (omega (arith, hi)) (digits-ascii s both.1)
 
-plain-byte : (b : ℕ) → (b ≡ 34 → ⊥) → (b ≡ 10 → ⊥) → is_plain b ≡ true
-plain-byte b q l = rw (is_other b 34 q, is_other b 10 l) refl
+-- a byte that is neither a comma nor a line feed ends no field
+inner-byte : (b : ℕ) → (b ≡ 44 → ⊥) → (b ≡ 10 → ⊥) → is_inner b ≡ true
+inner-byte b m l = rw (is_other b 44 m, is_other b 10 l) refl
 
-simple-byte : (b : ℕ) → (b ≡ 34 → ⊥) → (b ≡ 10 → ⊥) → (b ≡ 44 → ⊥) → is_simple b ≡ true
-simple-byte b q l m = rw (plain-byte b q l, is_other b 44 m) refl
+-- bytes that end no field, with one more, end none
+pub inner-more : (s : List ℕ) (i : ℕ) → i < length s → (get_or s i 0 ≡ 44 → ⊥) → (get_or s i 0 ≡ 10 → ⊥) → list_all is_inner (take i s) ≡ true → list_all is_inner (take (i + 1) s) ≡ true
+inner-more s i h m l e = list_all_more is_inner s i 0 h ∙ rw (e, inner-byte (get_or s i 0) m l) refl
 
--- simple bytes with one more are simple
-pub simple-more : (s : List ℕ) (i : ℕ) → i < length s → (get_or s i 0 ≡ 34 → ⊥) → (get_or s i 0 ≡ 10 → ⊥) → (get_or s i 0 ≡ 44 → ⊥) → list_all is_simple (take i s) ≡ true → list_all is_simple (take (i + 1) s) ≡ true
-simple-more s i h q l m e = list_all_more is_simple s i 0 h ∙ rw (e, simple-byte (get_or s i 0) q l m) refl
-
--- a byte beyond the comma is simple
-pub simple-beyond : (s : List ℕ) (i : ℕ) → i < length s → 44 < get_or s i 0 → list_all is_simple (take i s) ≡ true → list_all is_simple (take (i + 1) s) ≡ true
-simple-beyond s i h beyond e = simple-more s i h (λ q. absurd (omega (arith, beyond, q))) (λ l. absurd (omega (arith, beyond, l))) (λ m. absurd (omega (arith, beyond, m))) e
+-- a byte beyond the comma ends no field
+pub inner-beyond : (s : List ℕ) (i : ℕ) → i < length s → 44 < get_or s i 0 → list_all is_inner (take i s) ≡ true → list_all is_inner (take (i + 1) s) ≡ true
+inner-beyond s i h beyond e = inner-more s i h (λ m. absurd (omega (arith, beyond, m))) (λ l. absurd (omega (arith, beyond, l))) e
 
 -- bytes without a quote, with one more, have none
 pub no_quote-more : (s : List ℕ) (i : ℕ) → i < length s → (get_or s i 0 ≡ 34 → ⊥) → list_all no_quote (take i s) ≡ true → list_all no_quote (take (i + 1) s) ≡ true
 no_quote-more s i h q e = list_all_more no_quote s i 0 h ∙ rw (e, is_other (get_or s i 0) 34 q) refl
 
--- digits are simple
-digits-simple : (s : List ℕ) → are_digits s ≡ true → list_all is_simple s ≡ true
-digits-simple [] h = refl
-digits-simple (b ∷ s) h =
+-- digits end no field
+digits-inner : (s : List ℕ) → are_digits s ≡ true → list_all is_inner s ≡ true
+digits-inner [] h = refl
+digits-inner (b ∷ s) h =
     let both = and_parts (is_ascii_digit b) (are_digits s) h in
     let e = and_parts (nat_le 48 b) (nat_le b 57) both.0 in
     let lo : 48 ≤ b = leb-true 48 b e.0 in
-    rw (simple-byte b (λ q. absurd (omega (arith, lo, q))) (λ l. absurd (omega (arith, lo, l))) (λ m. absurd (omega (arith, lo, m)))) (digits-simple s both.1)
+    rw (inner-byte b (λ m. absurd (omega (arith, lo, m))) (λ l. absurd (omega (arith, lo, l)))) (digits-inner s both.1)
 
 -- digits before a comma, or all, end plainly
 pub digits-end : (s : List ℕ) (number i : ℕ) → HasDigits s number i → (i < length s → get_or s i 0 ≡ 44) → IsPlainEnd s i false
-digits-end s number i has there = record { within = has.within; simple = digits-simple (take i s) has.digits; ascii = λ no. cc; ends = there }
+digits-end s number i has there = record { within = has.within; inner = digits-inner (take i s) has.digits; ascii = λ no. cc; ends = there }
 
 -- texts that agree at one more place agree so far
 pub same-more : (s t : List ℕ) (i : ℕ) → i < length s → i < length t → get_or s i 0 ≡ get_or t i 0 → take i s ≡ take i t → take (i + 1) s ≡ take (i + 1) t
@@ -133,121 +133,67 @@ same-more s t i in_s in_t here before = rw (add-one, take-suc s i 0 in_s, take-s
 pub power-more : (n i d : ℕ) → n < 10 ^ i → d ≤ 9 → n * 10 + d < 10 ^ (i + 1)
 power-more n i d h le = rw add-one (omega arith)
 
-not_true : (b : Bool) → not b ≡ true → b ≡ false
-not_true false h = refl
-not_true true h = cc
+-- a byte that ends no field joins the one that has begun
+inner-step : (c : ℕ) → is_inner c ≡ true → step line_config st.InField c ≡ (st.InField, act.Copy)
+inner-step c inner = let e = not_either (c == comma) (c == line_feed) inner in rw (e.0, e.1) refl
 
--- a simple byte joins a field
-one-before : (c : ℕ) (s : List ℕ) (b : Bool) (before : List (List ℕ)) (field : List ℕ) → is_simple c ≡ true
-    → next_record line_config (field_state b) before field (c ∷ s) ≡ next_record line_config st.InField before (field ++ c ∷ []) s
+-- bytes that end no field join it, up to its comma
+inner-run : (s : List ℕ) (i : ℕ) (before : List (List ℕ)) (field : List ℕ) → i < length s → list_all is_inner (take i s) ≡ true → get_or s i 0 ≡ 44
+    → next_record line_config st.InField before field s ≡ next_record line_config st.StartField (before ++ (field ++ take i s) ∷ []) [] (drop (i + 1) s)
 unfolding next_record
-one-before c s b before field simple =
-    let both = and_parts (is_plain c) (not (c == comma)) simple in
-    rw (step-plain b c both.0, not_true (c == comma) both.1) refl
-
--- simple bytes and a comma end a field
-plain-run : (s : List ℕ) (i : ℕ) (b : Bool) (before : List (List ℕ)) (field : List ℕ) → i < length s → list_all is_simple (take i s) ≡ true → get_or s i 0 ≡ 44
-    → next_record line_config (field_state b) before field s ≡ next_record line_config st.StartField (before ++ (field ++ take i s) ∷ []) [] (drop (i + 1) s)
-unfolding next_record
-plain-run [] i b before field lt simple there = absurd (omega arith)
-plain-run (c ∷ s) zero b before field lt simple there =
+inner-run [] i before field lt inner there = absurd (omega arith)
+inner-run (c ∷ s) zero before field lt inner there =
     let same : c ≡ 44 = there in
-    rw (same, step-plain b 44 refl, append-nil field) refl
-plain-run (c ∷ s) (suc i) b before field lt simple there =
-    let both = and_parts (is_simple c) (list_all is_simple (take i s)) simple in
-    let one = and_parts (is_plain c) (not (c == comma)) both.0 in
+    rw (same, append-nil field) refl
+inner-run (c ∷ s) (suc i) before field lt inner there =
+    let both = and_parts (is_inner c) (list_all is_inner (take i s)) inner in
     let next : suc i + 1 ≡ suc (i + 1) = omega arith in
-    rw (step-plain b c one.0, not_true (c == comma) one.1, next) (
-    plain-run s i true before (field ++ c ∷ []) (omega arith) both.1 there
+    rw (inner-step c both.0, next) (
+    inner-run s i before (field ++ c ∷ []) (omega arith) both.1 there
     ∙ ap (λ (f : List ℕ). next_record line_config st.StartField (before ++ f ∷ []) [] (drop (i + 1) s)) (append_assoc field (c ∷ []) (take i s))
     )
 
--- simple bytes up to the end of the text are a field
-plain-rest : (s : List ℕ) (b : Bool) (before : List (List ℕ)) (field : List ℕ) → list_all is_simple s ≡ true
-    → next_record line_config (field_state b) before field s ≡ Some (before ++ (field ++ s) ∷ [], st.StartRecord, [])
+-- bytes that end no field join it, up to the end of the text
+inner-all : (s : List ℕ) (before : List (List ℕ)) (field : List ℕ) → list_all is_inner s ≡ true
+    → next_record line_config st.InField before field s ≡ Some (before ++ (field ++ s) ∷ [], st.StartRecord, [])
 unfolding next_record
-plain-rest [] true before field simple = rw (append-nil field) refl
-plain-rest [] false before field simple = rw (append-nil field) refl
-plain-rest (c ∷ s) b before field simple =
-    let both = and_parts (is_simple c) (list_all is_simple s) simple in
-    let one = and_parts (is_plain c) (not (c == comma)) both.0 in
-    rw (step-plain b c one.0, not_true (c == comma) one.1) (
-    plain-rest s true before (field ++ c ∷ []) both.1
+inner-all [] before field inner = rw (append-nil field) refl
+inner-all (c ∷ s) before field inner =
+    let both = and_parts (is_inner c) (list_all is_inner s) inner in
+    rw (inner-step c both.0) (
+    inner-all s before (field ++ c ∷ []) both.1
     ∙ ap (λ (f : List ℕ). Some (before ++ f ∷ [], st.StartRecord, [])) (append_assoc field (c ∷ []) s)
     )
 
--- a plain field ends at its comma
-pub first-cut : (s : List ℕ) (i : ℕ) (is_ascii : Bool) → IsPlainEnd s i is_ascii → i < length s → IsUtf8 (take i s) → IsFirst s (take i s) (Some (drop (i + 1) s))
-first-cut s i is_ascii h lt text = record {
-  reads = λ before. plain-run s i false before [] lt h.simple (h.ends lt);
+-- a field that isn't between quotes ends at its comma
+pub rest-cut : (s : List ℕ) (i : ℕ) (is_ascii : Bool) → IsPlainEnd s i is_ascii → i < length s → IsUtf8 (take i s) → IsRest s (take i s) (Some (drop (i + 1) s))
+rest-cut s i is_ascii h lt text = record {
+  reads = λ before begun. inner-run s i before begun lt h.inner (h.ends lt);
   utf8 = λ rest. utf8-around s i lt (omega (arith, h.ends lt)) text rest;
 }
 
--- a plain field may end with the line
-pub first-all : (s : List ℕ) (i : ℕ) (is_ascii : Bool) → IsPlainEnd s i is_ascii → i ≡ length s → IsUtf8 (take i s) → IsFirst s (take i s) None
-first-all s i is_ascii h e text =
+-- or with the line
+pub rest-all : (s : List ℕ) (i : ℕ) (is_ascii : Bool) → IsPlainEnd s i is_ascii → i ≡ length s → IsUtf8 (take i s) → IsRest s (take i s) None
+rest-all s i is_ascii h e text =
     let all : take i s ≡ s = rw e (take-length s) in
-    let first : IsFirst s s None = record { reads = λ before. plain-rest s false before [] (rw all at h.simple); utf8 = λ rest. rw all at text } in
-    rw all first
+    let rest : IsRest s s None = record { reads = λ before begun. inner-all s before begun (rw all at h.inner); utf8 = λ rest. rw all at text } in
+    rw all rest
 
--- bytes up to a quote join a quoted field
-quoted-run : (s : List ℕ) (i : ℕ) (before : List (List ℕ)) (field : List ℕ) → i < length s → list_all no_quote (take i s) ≡ true → get_or s i 0 ≡ 34
-    → next_record line_config st.InQuoted before field s ≡ next_record line_config st.AfterQuote before (field ++ take i s) (drop (i + 1) s)
+-- a field begins without quotes where no quote stands first
+pub starts-plainly : (s : List ℕ) (before : List (List ℕ)) → NoQuoteFirst s → next_record line_config st.StartField before [] s ≡ next_record line_config st.InField before [] s
 unfolding next_record
-quoted-run [] i before field lt none there = absurd (omega arith)
-quoted-run (c ∷ s) zero before field lt none there =
-    let same : c ≡ 34 = there in
-    rw (same, append-nil field) refl
-quoted-run (c ∷ s) (suc i) before field lt none there =
-    let both = and_parts (no_quote c) (list_all no_quote (take i s)) none in
-    let next : suc i + 1 ≡ suc (i + 1) = omega arith in
-    rw (not_true (c == quote) both.0, next) (
-    quoted-run s i before (field ++ c ∷ []) (omega arith) both.1 there
-    ∙ ap (λ (f : List ℕ). next_record line_config st.AfterQuote before f (drop (i + 1) s)) (append_assoc field (c ∷ []) (take i s))
-    )
+starts-plainly [] before other = refl
+starts-plainly (c ∷ s) before other = rw (is_other c quote other) refl
 
-after-none : (s : List ℕ) (before : List (List ℕ)) (field : List ℕ) → length s ≡ 0 → next_record line_config st.AfterQuote before field s ≡ Some (before ++ field ∷ [], st.StartRecord, [])
-unfolding next_record
-after-none [] before field none = refl
-after-none (c ∷ s) before field none = absurd (omega arith)
+-- so what would end a field is all of it
+pub first-rest : (s field : List ℕ) (left : Option (List ℕ)) → NoQuoteFirst s → IsRest s field left → IsFirst s field left
+first-rest s field left other h = record { reads = λ before. starts-plainly s before other ∙ h.reads before []; utf8 = h.utf8 }
 
-after-comma : (s : List ℕ) (before : List (List ℕ)) (field : List ℕ) → 0 < length s → get_or s 0 0 ≡ 44
-    → next_record line_config st.AfterQuote before field s ≡ next_record line_config st.StartField (before ++ field ∷ []) [] (drop 1 s)
-unfolding next_record
-after-comma [] before field some there = absurd (omega arith)
-after-comma (c ∷ s) before field some there = let same : c ≡ 44 = there in rw same refl
-
-utf8-none : (s : List ℕ) → length s ≡ 0 → IsUtf8 s
-utf8-none [] none = IsUtf8-nil
-utf8-none (b ∷ s) none = absurd (omega arith)
-
--- a quoted field may end with the line
-pub quoted-last : (s : List ℕ) (i : ℕ) (is_ascii : Bool) → IsQuoteAt s i is_ascii → length (drop (i + 1) s) ≡ 0 → IsUtf8 (take i s) → IsQuoted s (take i s) None
-quoted-last s i is_ascii h none text = record {
-  reads = λ before. quoted-run s i before [] h.within h.none h.here ∙ after-none (drop (i + 1) s) before (take i s) none;
-  utf8 = λ rest. utf8-around s i h.within (omega (arith, h.here)) text (utf8-none (drop (i + 1) s) none);
-}
-
--- a quoted field ends at a quote before a comma
-pub quoted-cut : (s : List ℕ) (i : ℕ) (is_ascii : Bool) → IsQuoteAt s i is_ascii → 0 < length (drop (i + 1) s) → get_or (drop (i + 1) s) 0 0 ≡ 44 → IsUtf8 (take i s)
-    → IsQuoted s (take i s) (Some (drop 1 (drop (i + 1) s)))
-quoted-cut s i is_ascii h some there text = record {
-  reads = λ before. quoted-run s i before [] h.within h.none h.here ∙ after-comma (drop (i + 1) s) before (take i s) some there;
-  utf8 = λ rest. utf8-around s i h.within (omega (arith, h.here)) text (utf8-around (drop (i + 1) s) 0 some (omega (arith, there)) IsUtf8-nil rest);
-}
-
--- a quote begins a quoted field
-pub first-quoted : (s field : List ℕ) (left : Option (List ℕ)) → 0 < length s → get_or s 0 0 ≡ 34 → IsQuoted (drop 1 s) field left → IsFirst s field left
-unfolding next_record
-first-quoted [] field left some there h = absurd (omega arith)
-first-quoted (c ∷ s) field left some there h =
-    let same : c ≡ 34 = there in record { reads = λ before. rw same (h.reads before); utf8 = λ rest. utf8-before c s (omega (arith, same)) (h.utf8 rest) }
-
--- what is found behind a quote at the front is the first field
-pub some-quoted : (s : List ℕ) (r : Option (Bor (List ℕ) × Option (Bor (List ℕ)))) → 0 < length s → get_or s 0 0 ≡ 34
-    → IfSome r (λ r. IsQuoted (drop 1 s) r.0.now (option_map (λ (t : Bor (List ℕ)). t.now) r.1)) → IfSome r (λ r. IsFirst s r.0.now (option_map (λ (t : Bor (List ℕ)). t.now) r.1))
-some-quoted s None some there h = tt
-some-quoted s (Some r) some there h = first-quoted s r.0.now (option_map (λ (t : Bor (List ℕ)). t.now) r.1) some there h
+-- the same of what is found
+pub some-first : (s : List ℕ) (r : Option (Bor (List ℕ) × Option (Bor (List ℕ)))) → NoQuoteFirst s
+    → IfSome r (λ r. IsRest s r.0.now (option_map (λ (t : Bor (List ℕ)). t.now) r.1)) → IfSome r (λ r. IsFirst s r.0.now (option_map (λ (t : Bor (List ℕ)). t.now) r.1))
+some-first s None other h = tt
+some-first s (Some r) other h = first-rest s r.0.now (option_map (λ (t : Bor (List ℕ)). t.now) r.1) other h
 
 -- the fields of a line are those from its first byte on
 pub line-fields : (line : List ℕ) (fields : List (List ℕ)) → strip_bom line ≡ line → 0 < length line → line_feeds_in line ≡ 0
@@ -290,11 +236,18 @@ pub int-first : (s : List ℕ) (n : ℕ) (left : Option (List ℕ)) → NumberFi
 int-first s n left h = record { field = h.field; first = h.first; writes = ap (option_map value.Int) (int-digits h.field n h.some h.digits h.value h.fits) }
 
 -- a sign begins the field of the digits behind it
-signed-first : (sign : ℕ) (s : List ℕ) (n : ℕ) (left : Option (List ℕ)) → is_simple sign ≡ true → sign < 128 → (h : NumberFirst s n left) → IsFirst (sign ∷ s) (sign ∷ h.field) left
-signed-first sign s n left simple small h = record {
-  reads = λ before. one-before sign s false before [] simple ∙ h.goes_on before (sign ∷ []);
+signed-first : (sign : ℕ) (s : List ℕ) (n : ℕ) (left : Option (List ℕ)) → is_inner sign ≡ true → sign < 128 → (sign ≡ quote → ⊥) → (h : NumberFirst s n left) → IsFirst (sign ∷ s) (sign ∷ h.field) left
+unfolding next_record
+signed-first sign s n left inner small other h = record {
+  reads = λ before. starts-plainly (sign ∷ s) before other ∙ rw (inner-step sign inner) (h.rest.reads before (sign ∷ []));
   utf8 = λ rest. utf8-before sign s small (h.first.utf8 rest);
 }
+
+minus-other : 45 ≡ quote → ⊥
+minus-other e = omega (arith, e)
+
+plus-other : 43 ≡ quote → ⊥
+plus-other e = omega (arith, e)
 
 -- a minus writes the number below zero
 pub minus-first : (s : List ℕ) (n : ℕ) (left : Option (List ℕ)) → 0 < length s → get_or s 0 0 ≡ 45 → NumberFirst (drop 1 s) n left → IntFirst s (neg_ℤ (pos n)) left
@@ -303,7 +256,7 @@ minus-first (c ∷ s) n left some there h =
     let same : c ≡ 45 = there in
     let writes : int_of (45 ∷ h.field) ≡ Some (neg_ℤ (pos n)) =
     ap (option_map (λ n. neg_ℤ (pos n))) (number-up 170141183460469231731687303715884105728 h.field n h.some h.digits h.value (omega (arith, h.fits))) in
-    rw same (record { field = 45 ∷ h.field; first = signed-first 45 s n left refl (omega arith) h; writes = ap (option_map value.Int) writes })
+    rw same (record { field = 45 ∷ h.field; first = signed-first 45 s n left refl (omega arith) minus-other h; writes = ap (option_map value.Int) writes })
 
 -- a plus writes the number
 pub plus-first : (s : List ℕ) (n : ℕ) (left : Option (List ℕ)) → 0 < length s → get_or s 0 0 ≡ 43 → NumberFirst (drop 1 s) n left → IntFirst s (pos n) left
@@ -312,15 +265,25 @@ plus-first (c ∷ s) n left some there h =
     let same : c ≡ 43 = there in
     let writes : int_of (43 ∷ h.field) ≡ Some (pos n) =
     ap (option_map pos) (number-up 170141183460469231731687303715884105727 h.field n h.some h.digits h.value (omega (arith, h.fits))) in
-    rw same (record { field = 43 ∷ h.field; first = signed-first 43 s n left refl (omega arith) h; writes = ap (option_map value.Int) writes })
+    rw same (record { field = 43 ∷ h.field; first = signed-first 43 s n left refl (omega arith) plus-other h; writes = ap (option_map value.Int) writes })
+
+-- digits don't begin with a quote
+no-quote-first : (s : List ℕ) (n i : ℕ) → HasDigits s n i → (i ≡ 0 → ⊥) → NoQuoteFirst s
+no-quote-first [] n i has some = tt
+no-quote-first (c ∷ s) n zero has some = λ e. some refl
+no-quote-first (c ∷ s) n (suc i) has some =
+    let both = and_parts (is_ascii_digit c) (are_digits (take i s)) has.digits in
+    let lo : 48 ≤ c = leb-true 48 c (and_parts (nat_le 48 c) (nat_le c 57) both.0).0 in
+    λ e. omega (arith, lo, e)
 
 -- a number ends at its comma
 pub number-cut : (s : List ℕ) (n i : ℕ) → HasDigits s n i → (i ≡ 0 → ⊥) → i < length s → get_or s i 0 ≡ 44 → NumberFirst s n (Some (drop (i + 1) s))
 number-cut s n i has some lt there =
-    let size = length-take-le i s has.within in record {
+    let size = length-take-le i s has.within in
+    let rest = rest-cut s i false (digits-end s n i has (λ _. there)) lt (digits-ascii (take i s) has.digits) in record {
       field = take i s;
-      first = first-cut s i false (digits-end s n i has (λ _. there)) lt (digits-ascii (take i s) has.digits);
-      goes_on = λ before begun. plain-run s i true before begun lt (digits-simple (take i s) has.digits) there;
+      first = first-rest s (take i s) (Some (drop (i + 1) s)) (no-quote-first s n i has some) rest;
+      rest = rest;
       some = omega (arith, size, some);
       digits = has.digits;
       value = has.value;
@@ -331,38 +294,49 @@ number-cut s n i has some lt there =
 pub number-all : (s : List ℕ) (n i : ℕ) → HasDigits s n i → (i ≡ 0 → ⊥) → i ≡ length s → NumberFirst s n None
 number-all s n i has some e =
     let all : take i s ≡ s = rw e (take-length s) in
-    let first : IsFirst s (take i s) None = first-all s i false (digits-end s n i has (λ lt. absurd (omega (arith, lt, e)))) e (digits-ascii (take i s) has.digits) in record {
+    let rest : IsRest s (take i s) None = rest-all s i false (digits-end s n i has (λ lt. absurd (omega (arith, lt, e)))) e (digits-ascii (take i s) has.digits) in record {
       field = s;
-      first = rw all at first;
-      goes_on = λ before begun. plain-rest s true before begun (digits-simple s (rw all at has.digits));
+      first = first-rest s s None (no-quote-first s n i has some) (rw all at rest);
+      rest = rw all at rest;
       some = omega (arith, e, some);
       digits = rw all at has.digits;
       value = rw all at has.value;
       fits = has.fits;
     }
 
+-- a comma is no quote
+comma-first : (s : List ℕ) → 0 < length s → get_or s 0 0 ≡ 44 → NoQuoteFirst s
+comma-first [] some there = tt
+comma-first (c ∷ s) some there = let same : c ≡ 44 = there in λ e. omega (arith, same, e)
+
 -- a comma stands first, and then the detection
 pub span-short : (s : List ℕ) (n : ℕ) (left : Option (List ℕ)) → 0 < length s → get_or s 0 0 ≡ 44 → NumberFirst (drop 1 s) n left → SpanFirst s (n, n) left
 span-short s n left some there h =
-    let end : IsPlainEnd s 0 false = record { within = omega arith; simple = refl; ascii = λ no. cc; ends = λ lt. there } in record {
+    let end : IsPlainEnd s 0 false = record { within = omega arith; inner = refl; ascii = λ no. cc; ends = λ lt. there } in
+    let empty : IsFirst s [] (Some (drop 1 s)) = first-rest s [] (Some (drop 1 s)) (comma-first s some there) (rest-cut s 0 false end some IsUtf8-nil) in record {
       start = [];
       detection = h.field;
-      reads = λ before. (first-cut s 0 false end some IsUtf8-nil).reads before ∙ h.first.reads (before ++ [] ∷ []) ∙ ap (read_left left) (append_assoc before ([] ∷ []) (h.field ∷ []));
+      reads = λ before. empty.reads before ∙ h.first.reads (before ++ [] ∷ []) ∙ ap (read_left left) (append_assoc before ([] ∷ []) (h.field ∷ []));
       times = rw (time-first (drop 1 s) n left h) refl;
-      utf8 = λ rest. (first-cut s 0 false end some IsUtf8-nil).utf8 (h.first.utf8 rest);
+      utf8 = λ rest. empty.utf8 (h.first.utf8 rest);
     }
+
+-- the start and the detection, whatever writes them
+pub span-any : (s rest start detection : List ℕ) (span : Span) (left : Option (List ℕ)) → IsFirst s start (Some rest) → IsFirst rest detection left → span_of start detection ≡ Ok span → SpanFirst s span left
+span-any s rest start detection span left h g times = record {
+  start = start;
+  detection = detection;
+  reads = λ before. h.reads before ∙ g.reads (before ++ start ∷ []) ∙ ap (read_left left) (append_assoc before (start ∷ []) (detection ∷ []));
+  times = times;
+  utf8 = λ text. h.utf8 (g.utf8 text);
+}
 
 -- the start, and then the detection
 pub span-long : (s rest : List ℕ) (n m : ℕ) (left : Option (List ℕ)) → NumberFirst s n (Some rest) → NumberFirst rest m left → n ≤ m → SpanFirst s (n, m) left
 span-long s rest n m left h g le =
     let early : nat_lt m n ≡ false = ltb-no m n le in
-    let some : (length h.field == 0) ≡ false = is_other (length h.field) 0 (λ e. absurd (omega (arith, h.some, e))) in record {
-      start = h.field;
-      detection = g.field;
-      reads = λ before. h.first.reads before ∙ g.first.reads (before ++ h.field ∷ []) ∙ ap (read_left left) (append_assoc before (h.field ∷ []) (g.field ∷ []));
-      times = rw (some, time-first s n (Some rest) h, time-first rest m left g, early) refl;
-      utf8 = λ text. h.first.utf8 (g.first.utf8 text);
-    }
+    let some : (length h.field == 0) ≡ false = is_other (length h.field) 0 (λ e. absurd (omega (arith, h.some, e))) in
+    span-any s rest h.field g.field (n, m) left h.first g.first (rw (some, time-first s n (Some rest) h, time-first rest m left g, early) refl)
 
 -- these values were read, one of each field so far
 pub record SoFar (kinds : List Kind) (first now : Option (List ℕ)) (vals : List Value) : Type 0 where
@@ -411,14 +385,40 @@ quick-event streams fields name start detection more stream schema span vals e d
     let same : (length (start ∷ detection ∷ more) + 1 == length (kinds_of schema) + 3) ≡ true = eq-eqb _ _ (omega (arith, size, many)) in
     rw (e, found, same, times, values) refl
 
--- a name of simple bytes before a comma stands first
-pub first-named : (s name : List ℕ) → length name < length s → get_or s (length name) 0 ≡ 44 → take (length name) s ≡ take (length name) name → list_all is_simple (take (length name) s) ≡ true
-    → IsUtf8 name → IsFirst s name (Some (drop (length name + 1) s))
-first-named s name within there same simple text =
+-- a line at whose front stand a name and the times, and the values behind them, is an event
+pub parts-event : (streams : List Entry) (line left : List ℕ) (more : Option (List ℕ)) (stream : ℕ) (schema : List Attr) (span : Span) (vals : List Value) → IsLine line → strip_bom line ≡ line
+    → StreamFirst streams line stream left → slice_get (schemas_of streams) stream ≡ Some schema → SpanFirst left span more → WriteAll schema more vals
+    → event streams line ≡ Ok (record { stream = stream; tuple = record { vals = vals; from = span.0; at = span.1 } })
+parts-event streams line left more stream schema span vals is strip name got times write =
+    let named : List (List ℕ) = name.name ∷ [] in
+    let fields : List (List ℕ) = name.name ∷ times.start ∷ times.detection ∷ write.fields in
+    let reads : next_record line_config st.StartField [] [] line ≡ Some (fields, st.StartRecord, []) =
+    name.first.reads [] ∙ times.reads named ∙ write.reads (named ++ times.start ∷ times.detection ∷ []) in
+    let text : IsUtf8 line = name.first.utf8 (times.utf8 write.utf8) in
+    event-text streams line is.short text
+    ∙ ap (record_event streams) (line-fields line fields strip is.nonempty is.no_feed reads)
+    ∙ quick-event streams fields name.name times.start times.detection write.fields stream schema span vals refl name.declared got times.times write.values write.many
+
+-- no quote stands first where the byte after those so far is beyond the comma
+pub none-first : (s : List ℕ) (i : ℕ) → 44 < get_or s i 0 → (0 < i → get_or s 0 0 ≡ 34 → ⊥) → 0 < i + 1 → get_or s 0 0 ≡ 34 → ⊥
+none-first s zero beyond before some e = omega (arith, beyond, e)
+none-first s (suc i) beyond before some e = before (omega arith) e
+
+-- none does where that byte is a comma
+none-named : (s : List ℕ) (i : ℕ) → get_or s i 0 ≡ 44 → (0 < i → get_or s 0 0 ≡ 34 → ⊥) → NoQuoteFirst s
+none-named [] i there other = tt
+none-named (c ∷ s) zero there other = let same : c ≡ 44 = there in λ e. omega (arith, same, e)
+none-named (c ∷ s) (suc i) there other = other (omega arith)
+
+-- a name in which no byte ends a field stands first, where no quote stands first and a comma stands behind it
+pub first-named : (s name : List ℕ) → length name < length s → get_or s (length name) 0 ≡ 44 → take (length name) s ≡ take (length name) name → list_all is_inner (take (length name) s) ≡ true
+    → (0 < length name → get_or s 0 0 ≡ 34 → ⊥) → IsUtf8 name → IsFirst s name (Some (drop (length name + 1) s))
+first-named s name within there same inner other text =
     let is : take (length name) s ≡ name = same ∙ take-length name in
     let front : IsUtf8 (take (length name) s) = rw is text in
-    let end : IsPlainEnd s (length name) false = record { within = omega (arith, within); simple = simple; ascii = λ no. cc; ends = λ _. there } in
-    subst (λ (field : List ℕ). IsFirst s field (Some (drop (length name + 1) s))) is (first-cut s (length name) false end within front)
+    let end : IsPlainEnd s (length name) false = record { within = omega (arith, within); inner = inner; ascii = λ no. cc; ends = λ _. there } in
+    subst (λ (field : List ℕ). IsFirst s field (Some (drop (length name + 1) s))) is
+    (first-rest s (take (length name) s) (Some (drop (length name + 1) s)) (none-named s (length name) there other) (rest-cut s (length name) false end within front))
 
 -- the kinds of a declared stream, by induction on the streams
 declared-kinds : (streams : List Entry) (i n : ℕ) → slice_get (declared_of streams) i ≡ Some true

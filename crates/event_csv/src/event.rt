@@ -6,11 +6,11 @@ ghost use Rattle.event_csv.specs.Event.{Tells, ValuesTell, counted_event, declar
 ghost use Rattle.event_csv.specs.Fed.{IsLine};
 ghost use Rattle.event_csv.specs.Fields.{fields_left};
 
+use crate::copied::read_copied;
 use crate::decimals::units;
 use crate::fault::{LineFault, ReadFail};
 use crate::fields::{Fields, is_plain, record_of};
 use crate::numbers::{int, time};
-use crate::quick::read_quickly;
 use event_types::{Kind, List, Memory, StreamId, Text, Tuple, Vals, Value};
 use std::alloc::Global;
 use stream_schema::{Schema, Streams};
@@ -22,13 +22,14 @@ pub struct Seen {
     pub tuple: Tuple,
 }
 
-/// The event of a line, or the line's first fault.
+/// The event of a line, or the line's first fault. Most lines are read sooner by `read_quickly`; this is for those that it
+/// leaves, and tries it no second time.
 pub fn read_event(alloc: Global, streams: &Streams, line: &[u8]) -> Result<Seen, ReadFail>
     requires { IsLine line.now }
     ensures ok { IfOk result (λ seen. event streams.now line.now ≡ Ok seen) }
     ensures bad { IfErr result (Tells (event streams.now line.now)) }
 {
-    match read_quickly(alloc, streams, 0, None, line) {
+    match read_copied(alloc, streams, line) {
         Some(seen) => Ok(seen),
         None => read_slowly(alloc, streams, line),
     }
@@ -114,8 +115,8 @@ fn read_tuple(
     }
 }
 
-// The times of an event, by its second field and its third: an empty start is the detection.
-fn span(start: &str, detection: &str) -> Result<(u64, u64), LineFault>
+/// The times of an event, by its second field and its third: an empty start is the detection.
+pub(crate) fn span(start: &str, detection: &str) -> Result<(u64, u64), LineFault>
     ensures value { result ≡ span_of start.now detection.now }
     ensures in_order { IfOk result (λ span. span.0 ≤ span.1) }
 {
@@ -156,8 +157,8 @@ fn read_values(alloc: Global, schema: &Schema, fields: &mut Fields<'_>) -> Resul
     Ok(vals)
 }
 
-// The value that a field of a kind writes.
-fn read_value(alloc: Global, kind: Kind, field: &str) -> Result<Option<Value>, Memory>
+/// The value that a field of a kind writes.
+pub(crate) fn read_value(alloc: Global, kind: Kind, field: &str) -> Result<Option<Value>, Memory>
     ensures { IfOk result (λ found. found ≡ value_of kind field.now) }
 {
     match kind {

@@ -1,20 +1,40 @@
-//! The field at the front of those that are left of a line, cut off without the reader of `csv`: a text in which no quote
-//! stands, or a number of few digits.
-ghost use Rattle.std.specs.Prelude.{◌≡◌, neg_ℤ, option_map, pos, true, IfSome, IsUtf8, Some};
+//! The field at the front of those that are left of a line, cut off without the reader of `csv`: a text that stands in
+//! the line as it is, or a number of few digits.
+ghost use Rattle.std.specs.Prelude.{◌≡◌, ◌∷◌, neg_ℤ, option_map, pos, true, IfSome, IsUtf8, MatchOption, Some};
 ghost use Rattle.std.specs.Str.{IsAscii};
-ghost use Rattle.event_csv.specs.Quick.{HasDigits, IntFirst, IsFirst, IsPlainEnd, IsQuoteAt, IsQuoted, NumberFirst};
+ghost use Rattle.event_csv.specs.Fields.{quote};
+ghost use Rattle.event_csv.specs.Quick.{HasDigits, IntFirst, IsFirst, IsPiece, IsPlainEnd, IsQuoteAt, IsQuoted, IsRest, NoQuoteFirst, NumberFirst};
 
 use crate::numbers::SHORT;
 use std::str::{from_utf8, from_utf8_unchecked};
 
-/// The field at the front and those behind it, where that is quickly read.
+/// The field at the front and those behind it, where it has no quotes around it, or no doubled quote between them.
 #[inline(always)]
 pub(crate) fn take_field(text: &[u8]) -> Option<(&str, Option<&[u8]>)>
     ensures { IfSome result (λ r. IsFirst text.now r.0.now (option_map (λ s. s.now) r.1)) }
 {
-    if 0 < text.len() && text[0] == b'"' {
-        return take_quoted(&text[1..]);
+    match behind_quote(text) {
+        Some(behind) => take_quoted(behind),
+        None => take_rest(text),
     }
+}
+
+/// The bytes behind a quote that stands first.
+#[inline(always)]
+pub(crate) fn behind_quote(text: &[u8]) -> Option<&[u8]>
+    ensures { MatchOption result (NoQuoteFirst text.now) (λ behind. text.now ≡ quote ∷ behind.now) }
+{
+    if 0 < text.len() && text[0] == b'"' {
+        return Some(&text[1..]);
+    }
+    None
+}
+
+/// The rest of a field that isn't between quotes, and the fields behind it. A quote in it is a byte as others are.
+#[inline(always)]
+pub(crate) fn take_rest(text: &[u8]) -> Option<(&str, Option<&[u8]>)>
+    ensures { IfSome result (λ r. IsRest text.now r.0.now (option_map (λ s. s.now) r.1)) }
+{
     let (end, is_ascii) = plain_end(text)?;
     let field = text_of(&text[..end], is_ascii)?;
     if end < text.len() {
@@ -75,9 +95,7 @@ fn take_signed(text: &[u8]) -> Option<(i128, Option<&[u8]>)>
 fn take_quoted(text: &[u8]) -> Option<(&str, Option<&[u8]>)>
     ensures { IfSome result (λ r. IsQuoted text.now r.0.now (option_map (λ s. s.now) r.1)) }
 {
-    let (end, is_ascii) = quote_at(text)?;
-    let field = text_of(&text[..end], is_ascii)?;
-    let rest = &text[end + 1..];
+    let (field, rest) = take_piece(text)?;
     if rest.len() == 0 {
         return Some((field, None));
     }
@@ -85,6 +103,16 @@ fn take_quoted(text: &[u8]) -> Option<(&str, Option<&[u8]>)>
         return Some((field, Some(&rest[1..])));
     }
     None
+}
+
+/// The text before the first quote, and the bytes behind that quote.
+#[inline(always)]
+pub(crate) fn take_piece(text: &[u8]) -> Option<(&str, &[u8])>
+    ensures { IfSome result (λ r. IsPiece text.now r.0.now r.1.now) }
+{
+    let (end, is_ascii) = quote_at(text)?;
+    let piece = text_of(&text[..end], is_ascii)?;
+    Some((piece, &text[end + 1..]))
 }
 
 // The text of bytes. Those that are known to be ASCII aren't looked at again.
@@ -124,8 +152,8 @@ fn quote_at(text: &[u8]) -> Option<(usize, bool)>
     None
 }
 
-// A place up to which no quote, comma or line feed stands, and where a comma does or the text ends; and a flag that is
-// true only if all bytes before it are ASCII. It may answer none. All three are small, so one comparison passes most bytes.
+// A place up to which no comma or line feed stands, and where a comma does or the text ends; and a flag that is true only
+// if all bytes before it are ASCII. It may answer none. Both are small, so one comparison passes most bytes.
 #[inline(always)]
 fn plain_end(text: &[u8]) -> Option<(usize, bool)>
     ensures { IfSome result (λ r. IsPlainEnd text.now r.0 r.1) }
@@ -137,9 +165,6 @@ fn plain_end(text: &[u8]) -> Option<(usize, bool)>
         }
         if *byte == b',' {
             return Some((place, is_ascii));
-        }
-        if *byte == b'"' {
-            return None;
         }
         if *byte == b'\n' {
             return None;

@@ -5,6 +5,7 @@
 #![tactic(auto)]
 
 mod control;
+mod copied;
 mod decimals;
 mod event;
 mod fault;
@@ -16,6 +17,7 @@ mod laws;
 mod numbers;
 mod place;
 mod quick;
+mod quotes;
 
 pub use control::{Control, ControlError, read_control};
 pub use event::{Seen, read_event};

@@ -1,5 +1,5 @@
 //! The quick reading of a line, field by field, in one pass and without the reader of `csv`. Every line that is an event
-//! by fields of few digits, and by texts in which no quote stands, is read so; any other is left, and its fault isn't told.
+//! by fields of few digits, and by texts that stand in it as they are, is read so; any other is left, and its fault isn't told.
 ghost use Rattle.std.specs.Prelude.{◌≡◌, [], option_map, IfSome, Ok, Some};
 ghost use Rattle.event_csv.specs.Decimals.{units_of};
 ghost use Rattle.event_csv.specs.Event.{event};
@@ -41,9 +41,9 @@ pub fn read_quickly(
     }
 }
 
-// The declared stream that the first field names, and the fields behind it.
+/// The declared stream that the first field names, and the fields behind it.
 #[inline(always)]
-fn take_stream<'a>(
+pub(crate) fn take_stream<'a>(
     streams: &Streams,
     near: StreamId,
     line: &'a [u8],
