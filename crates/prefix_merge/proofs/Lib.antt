@@ -10,6 +10,7 @@ pub mod GrowthLemmas
 pub mod HolderLemmas
 pub mod InsertionLemmas
 pub mod LawLemmas
+pub mod ListedLemmas
 pub mod MovedLemmas
 pub mod NumberedLemmas
 pub mod PrefixLemmas

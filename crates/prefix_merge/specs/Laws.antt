@@ -7,6 +7,7 @@ use Rattle.automaton.specs.Prefixes.{Prefix, prefixes}
 use Rattle.automaton.specs.States.{Net, root_in}
 use Rattle.prefix_merge.specs.Counts.{ListPrefixes, is_root}
 use Rattle.prefix_merge.specs.Insertion.{Inserts}
+use Rattle.prefix_merge.specs.Listed.{states_of}
 use Rattle.prefix_merge.specs.Merging.{EndsInState, HasPrefix, IsMerged, IsSettled}
 use Rattle.prefix_merge.specs.Removal.{Removes}
 
@@ -30,6 +31,10 @@ pub record ListsStates (net : Net) (lines : List Line) : Type 0 where
 -- each merged network that has the lines has such a list
 abbrev pub StatesAreListed : Type 0
 StatesAreListed = (net : Net) (lines : List Line) → IsMerged net → HasLines net lines → ListsStates net lines
+
+-- whichever lines there are, their prefixes are listed, each once
+abbrev pub PrefixesAreListed : Type 0
+PrefixesAreListed = (lines : List Line) → ListPrefixes lines (states_of lines)
 
 -- a line that comes and is taken away again leaves a merged network as it was
 abbrev pub TakenBackIsBefore : Type 0

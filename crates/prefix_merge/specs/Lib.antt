@@ -5,6 +5,7 @@ pub mod Growth
 pub mod Holders
 pub mod Insertion
 pub mod Laws
+pub mod Listed
 pub mod Merging
 pub mod Places
 pub mod Pruning

@@ -1,5 +1,5 @@
 //! Laws over merged networks.
-ghost use Rattle.prefix_merge.specs.Laws.{LinesAreItsOwn, LinesComeInTurn, StatesAreCounted, StatesAreListed, StatesArePrefixes, TakenBackIsBefore};
+ghost use Rattle.prefix_merge.specs.Laws.{LinesAreItsOwn, LinesComeInTurn, PrefixesAreListed, StatesAreCounted, StatesAreListed, StatesArePrefixes, TakenBackIsBefore};
 
 /// The states of a merged network are exactly the prefixes that its ends use.
 pub fn states_are_prefixes()
@@ -15,6 +15,11 @@ pub fn states_are_counted()
 /// as many as its root states.
 pub fn states_are_listed()
     ensures { StatesAreListed }
+{}
+
+/// The prefixes of lines are listed, each once.
+pub fn prefixes_are_listed()
+    ensures { PrefixesAreListed }
 {}
 
 /// A merged network has the lines of its ends, so a layout that fits them fits it.

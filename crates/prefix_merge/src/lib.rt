@@ -17,8 +17,8 @@ mod reading;
 mod turns;
 
 pub use laws::{
-    lines_are_its_own, lines_come_in_turn, states_are_counted, states_are_listed,
-    states_are_prefixes, taken_back_is_before,
+    lines_are_its_own, lines_come_in_turn, prefixes_are_listed, states_are_counted,
+    states_are_listed, states_are_prefixes, taken_back_is_before,
 };
 pub use left::Left;
 pub use merged::Merged;
