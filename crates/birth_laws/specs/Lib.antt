@@ -1,2 +1,3 @@
 pub mod BornChains
 pub mod BornPrograms
+pub mod LeastBirths

@@ -6,6 +6,7 @@
 #![tactic(auto)]
 
 ghost use Rattle.birth_laws.specs.BornPrograms.{BornLinesAreTheLines, BornLinesMeanTheirExpression, BornLinesMeanTheirProgram};
+ghost use Rattle.birth_laws.specs.LeastBirths.{EachPrefixHasALeastBirth};
 
 /// The lines of a program with births are its lines, so a network and a layout for these serve.
 pub fn born_lines_are_the_lines()
@@ -25,4 +26,9 @@ pub fn born_lines_mean_their_expression()
 /// queries, give exactly the streams of the program.
 pub fn born_lines_mean_their_program()
     ensures { BornLinesMeanTheirProgram }
+{}
+
+/// The lines that use a state have a least birth: whatever began no later than it is of no use to any of them.
+pub fn each_prefix_has_a_least_birth()
+    ensures { EachPrefixHasALeastBirth }
 {}
