@@ -33,6 +33,14 @@ use Rattle.independence.proofs.TakenLemmas.{found-there}
 pub read-front : (declared streams : List Entry) → BeginWith declared streams → (bytes : List ℕ) → event streams bytes ≡ event declared bytes
 read-front declared streams begins bytes = ap (λ es. event es bytes) begins.parts ∙ undeclared_change_no_event declared begins.more bytes begins.undeclared
 
+-- each event line is read alike over the declared streams
+abbrev pub ReadAlike : Judged → Judged → Type 0
+ReadAlike a b = (bytes : List ℕ) → AreReadAlike a.streams b.streams (event a.declared bytes) (event b.declared bytes)
+
+-- each event over the first declared streams is the same one over the second
+abbrev pub TakeAlike : Judged → Judged → Type 0
+TakeAlike a b = (bytes : List ℕ) (seen : Seen) → event a.declared bytes ≡ Ok seen → AreReadAlike a.streams b.streams (Ok seen) (event b.declared bytes)
+
 module _ (a b : Judged) (first : ℕ → ℕ) where
   -- so it is at two moments, at which the same time was seen
   pub record IsAlong (m n : Moment) : Type 0 where
@@ -63,6 +71,11 @@ module _ (a b : Judged) (first : ℕ → ℕ) where
     event-step (Ok seen) (Err why) alike none = absurd alike
     event-step (Err why) (Ok other) alike none = absurd alike
     event-step (Err why) (Err other) alike none = cc
+
+    -- an event line, whose event is the same one
+    taken-step : (found other : Result Seen LineFault) → ((seen : Seen) → found ≡ Ok seen → AreReadAlike a.streams b.streams (Ok seen) other) → refusal_of line m (event_entry found) ≡ None → IsStep m n (event_entry found) (event_entry other)
+    taken-step (Ok seen) other alike none = event-step (Ok seen) other (alike seen refl) none
+    taken-step (Err why) other alike none = cc
 
     -- a line that adds a query to both
     adding-step : (text : List ℕ) (verdict other : AddedVerdict) → JudgesAdded m.set.streams text verdict → JudgesAdded n.set.streams text other
@@ -124,9 +137,8 @@ module _ (a b : Judged) (first : ℕ → ℕ) where
     control-step (Err control_error.NotUtf8) none none_too = cc
     control-step (Err control_error.BadForm) none none_too = cc
 
-    -- a line of any bytes, where each event line is read alike over the declared streams
-    pub line-step : ((bytes : List ℕ) → AreReadAlike a.streams b.streams (event a.declared bytes) (event b.declared bytes)) → (bytes : List ℕ)
-        → refusal_of line m (entry_of m.set bytes) ≡ None → refusal_of line n (entry_of n.set bytes) ≡ None → IsStep m n (entry_of m.set bytes) (entry_of n.set bytes)
+    -- a line of any bytes, where each event over the first declared streams is the same one over the second
+    pub line-step : TakeAlike a b → (bytes : List ℕ) → refusal_of line m (entry_of m.set bytes) ≡ None → refusal_of line n (entry_of n.set bytes) ≡ None → IsStep m n (entry_of m.set bytes) (entry_of n.set bytes)
     line-step alike bytes = by-tests (is_long bytes) (is_control bytes)
       where
         by-tests : (long control : Bool)
@@ -137,6 +149,6 @@ module _ (a b : Judged) (first : ℕ → ℕ) where
         by-tests true control none none_too = cc
         by-tests false true none none_too = control-step (control_of bytes) none none_too
         by-tests false false none none_too =
-            event-step (event m.set.streams bytes) (event n.set.streams bytes)
-            (subst (λ (p : Result Seen LineFault × Result Seen LineFault). AreReadAlike a.streams b.streams p.0 p.1)
-            (λ i. (sym (read-front a.declared m.set.streams along.inside.kept.begins bytes) i, sym (read-front b.declared n.set.streams along.inside.kept_too.begins bytes) i)) (alike bytes)) none
+            let front = read-front a.declared m.set.streams along.inside.kept.begins bytes in
+            let front_too = read-front b.declared n.set.streams along.inside.kept_too.begins bytes in
+            taken-step (event m.set.streams bytes) (event n.set.streams bytes) (λ seen is. subst (AreReadAlike a.streams b.streams (Ok seen)) (sym front_too) (alike bytes seen (sym front ∙ is))) none

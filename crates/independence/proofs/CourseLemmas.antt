@@ -18,7 +18,7 @@ use Rattle.courses.proofs.EventLinesLemmas.{event_line}
 use Rattle.courses.proofs.HeardLemmas.{first_none}
 use Rattle.independence.specs.Courses.{AreOneEntry}
 use Rattle.independence.specs.Enlarging.{AreReadAlike}
-use Rattle.independence.proofs.AlongLemmas.{IsAlong, IsStep, event-step, line-step, read-front}
+use Rattle.independence.proofs.AlongLemmas.{IsAlong, IsStep, ReadAlike, TakeAlike, event-step, line-step, read-front}
 
 -- where neither of two lines is refused, the second isn't
 second_none : (o p : Option Refusal) → option_or o p ≡ None → p ≡ None
@@ -32,9 +32,9 @@ module _ (a b : Judged) (first : ℕ → ℕ) where
   GoAlong m n (x ∷ course) (y ∷ other) = IsAlong a b first m n × AreOneEntry a.streams b.streams x y × GoAlong (after_entry m x) (after_entry n y) course other
   GoAlong m n course other = ⊥
 
-  -- no line is a control line, or none is refused
+  -- no line is a control line, and event lines are read alike; or none is refused, and what is taken is taken alike
   abbrev pub AreFit : Moment → Moment → List Line → Type 0
-  AreFit m n lines = All (λ line. is_control line.bytes ≡ false) lines ⊎ ((refused_from m lines ≡ None) × (refused_from n lines ≡ None))
+  AreFit m n lines = (ReadAlike a b × All (λ line. is_control line.bytes ≡ false) lines) ⊎ (TakeAlike a b × (refused_from m lines ≡ None) × (refused_from n lines ≡ None))
 
   -- the same line is refused, and what is heard goes along
   pub record HearAlike (m n : Moment) (lines : List Line) : Type 0 where
@@ -46,78 +46,78 @@ module _ (a b : Judged) (first : ℕ → ℕ) where
     pub refused_is : refusal_of number m found ≡ refusal_of number n other
     pub step : refusal_of number m found ≡ None → IsStep a b first m n found other
 
-  module _ (alike : (bytes : List ℕ) → AreReadAlike a.streams b.streams (event a.declared bytes) (event b.declared bytes)) where
-    -- an event line is refused alike
-    event-alike : (number : ℕ) (m n : Moment) (along : IsAlong a b first m n) (found other : Result Seen LineFault) → AreReadAlike a.streams b.streams found other → StartAlike number m n (event_entry found) (event_entry other)
-    event-alike number m n along (Ok seen) (Ok other) same = record {
-      refused_is = λ i. disorder number (along.is_open i) (along.seen i) (same.1 i).at;
-      step = event-step a b first m n along number (Ok seen) (Ok other) same;
-    }
-    event-alike number m n along (Ok seen) (Err why) same = absurd same
-    event-alike number m n along (Err why) (Ok other) same = absurd same
-    event-alike number m n along (Err why) (Err other) same = record {
-      refused_is = ap (λ f. refusal_of number m (Err (OfLine f))) same;
-      step = event-step a b first m n along number (Err why) (Err other) same;
-    }
+  -- an event line is refused alike
+  event-alike : (number : ℕ) (m n : Moment) (along : IsAlong a b first m n) (found other : Result Seen LineFault) → AreReadAlike a.streams b.streams found other → StartAlike number m n (event_entry found) (event_entry other)
+  event-alike number m n along (Ok seen) (Ok other) same = record {
+    refused_is = λ i. disorder number (along.is_open i) (along.seen i) (same.1 i).at;
+    step = event-step a b first m n along number (Ok seen) (Ok other) same;
+  }
+  event-alike number m n along (Ok seen) (Err why) same = absurd same
+  event-alike number m n along (Err why) (Ok other) same = absurd same
+  event-alike number m n along (Err why) (Err other) same = record {
+    refused_is = ap (λ f. refusal_of number m (Err (OfLine f))) same;
+    step = event-step a b first m n along number (Err why) (Err other) same;
+  }
 
-    -- so is a line that is no control line
-    plain-alike : (number : ℕ) (m n : Moment) (along : IsAlong a b first m n) (bytes : List ℕ) → is_control bytes ≡ false → StartAlike number m n (entry_of m.set bytes) (entry_of n.set bytes)
-    plain-alike number m n along bytes plain =
-        subst (λ (p : Result CourseEntry EntryFault × Result CourseEntry EntryFault). StartAlike number m n p.0 p.1)
-        (λ i. (sym (event_line m.set bytes plain) i, sym (event_line n.set bytes plain) i))
-        (event-alike number m n along (event m.set.streams bytes) (event n.set.streams bytes)
-        (subst (λ (p : Result Seen LineFault × Result Seen LineFault). AreReadAlike a.streams b.streams p.0 p.1)
-        (λ i. (sym (read-front a.declared m.set.streams along.inside.kept.begins bytes) i, sym (read-front b.declared n.set.streams along.inside.kept_too.begins bytes) i)) (alike bytes)))
+  -- so is a line that is no control line
+  plain-alike : ReadAlike a b → (number : ℕ) (m n : Moment) (along : IsAlong a b first m n) (bytes : List ℕ) → is_control bytes ≡ false → StartAlike number m n (entry_of m.set bytes) (entry_of n.set bytes)
+  plain-alike alike number m n along bytes plain =
+      subst (λ (p : Result CourseEntry EntryFault × Result CourseEntry EntryFault). StartAlike number m n p.0 p.1)
+      (λ i. (sym (event_line m.set bytes plain) i, sym (event_line n.set bytes plain) i))
+      (event-alike number m n along (event m.set.streams bytes) (event n.set.streams bytes)
+      (subst (λ (p : Result Seen LineFault × Result Seen LineFault). AreReadAlike a.streams b.streams p.0 p.1)
+      (λ i. (sym (read-front a.declared m.set.streams along.inside.kept.begins bytes) i, sym (read-front b.declared n.set.streams along.inside.kept_too.begins bytes) i)) (alike bytes)))
 
-    -- one line before others
-    one-more : (line : Line) (lines : List Line) (m n : Moment) → IsAlong a b first m n → StartAlike line.number m n (entry_of m.set line.bytes) (entry_of n.set line.bytes)
-        → ((p q : Moment) → IsAlong a b first p q → p ≡ after_line m line → q ≡ after_line n line → HearAlike p q lines) → HearAlike m n (line ∷ lines)
-    one-more line lines m n along start rest = by-refusal (refusal_at m line) refl
-      where
-        by-refusal : (o : Option Refusal) → refusal_at m line ≡ o → HearAlike m n (line ∷ lines)
-        by-refusal (Some refusal) e =
-            let e_too : refusal_at n line ≡ Some refusal = sym start.refused_is ∙ e in
-            record {
-              refused_is = ap (λ o. option_or o (refused_from (after_line m line) lines)) e ∙ sym (ap (λ o. option_or o (refused_from (after_line n line) lines)) e_too);
-              heard_are =
-                  subst (λ (p : Course × Course). GoAlong m n p.0 p.1)
-                  (λ i. (sym (ap (λ o. cond (is_some o) [] (entries_in (entry_of m.set line.bytes) ++ heard_from (after_line m line) lines)) e) i, sym (ap (λ o. cond (is_some o) [] (entries_in (entry_of n.set line.bytes) ++ heard_from (after_line n line) lines)) e_too) i)) along;
-            }
-        by-refusal None e =
-            let e_too : refusal_at n line ≡ None = sym start.refused_is ∙ e in
-            let step = start.step e in
-            let then : after_entry m step.entry ≡ after_line m line = ap (λ found. after m (entries_in found)) (sym step.is) in
-            let then_too : after_entry n step.twin ≡ after_line n line = ap (λ found. after n (entries_in found)) (sym step.is_too) in
-            let behind = rest (after_entry m step.entry) (after_entry n step.twin) step.along then then_too in
-            record {
-              refused_is =
-                  ap (λ o. option_or o (refused_from (after_line m line) lines)) e ∙ ap (λ p. refused_from p lines) (sym then) ∙ behind.refused_is
-                  ∙ ap (λ p. refused_from p lines) then_too ∙ sym (ap (λ o. option_or o (refused_from (after_line n line) lines)) e_too);
-              heard_are =
-                  subst (λ (p : Course × Course). GoAlong m n p.0 p.1)
-                  (λ i. (sym (heard-step m line lines step.entry e step.is) i, sym (heard-step n line lines step.twin e_too step.is_too) i)) (along, step.one, behind.heard_are);
-            }
-          where
-            heard-step : (m : Moment) (line : Line) (lines : List Line) (entry : CourseEntry) → refusal_at m line ≡ None → entry_of m.set line.bytes ≡ Ok entry → heard_from m (line ∷ lines) ≡ entry ∷ heard_from (after_entry m entry) lines
-            heard-step m line lines entry none is =
-                ap (λ o. cond (is_some o) [] (entries_in (entry_of m.set line.bytes) ++ heard_from (after_line m line) lines)) none
-                ∙ ap (λ found. entries_in found ++ heard_from (after m (entries_in found)) lines) is
+  -- one line before others
+  one-more : (line : Line) (lines : List Line) (m n : Moment) → IsAlong a b first m n → StartAlike line.number m n (entry_of m.set line.bytes) (entry_of n.set line.bytes)
+      → ((p q : Moment) → IsAlong a b first p q → p ≡ after_line m line → q ≡ after_line n line → HearAlike p q lines) → HearAlike m n (line ∷ lines)
+  one-more line lines m n along start rest = by-refusal (refusal_at m line) refl
+    where
+      by-refusal : (o : Option Refusal) → refusal_at m line ≡ o → HearAlike m n (line ∷ lines)
+      by-refusal (Some refusal) e =
+          let e_too : refusal_at n line ≡ Some refusal = sym start.refused_is ∙ e in
+          record {
+            refused_is = ap (λ o. option_or o (refused_from (after_line m line) lines)) e ∙ sym (ap (λ o. option_or o (refused_from (after_line n line) lines)) e_too);
+            heard_are =
+                subst (λ (p : Course × Course). GoAlong m n p.0 p.1)
+                (λ i. (sym (ap (λ o. cond (is_some o) [] (entries_in (entry_of m.set line.bytes) ++ heard_from (after_line m line) lines)) e) i, sym (ap (λ o. cond (is_some o) [] (entries_in (entry_of n.set line.bytes) ++ heard_from (after_line n line) lines)) e_too) i)) along;
+          }
+      by-refusal None e =
+          let e_too : refusal_at n line ≡ None = sym start.refused_is ∙ e in
+          let step = start.step e in
+          let then : after_entry m step.entry ≡ after_line m line = ap (λ found. after m (entries_in found)) (sym step.is) in
+          let then_too : after_entry n step.twin ≡ after_line n line = ap (λ found. after n (entries_in found)) (sym step.is_too) in
+          let behind = rest (after_entry m step.entry) (after_entry n step.twin) step.along then then_too in
+          record {
+            refused_is =
+                ap (λ o. option_or o (refused_from (after_line m line) lines)) e ∙ ap (λ p. refused_from p lines) (sym then) ∙ behind.refused_is
+                ∙ ap (λ p. refused_from p lines) then_too ∙ sym (ap (λ o. option_or o (refused_from (after_line n line) lines)) e_too);
+            heard_are =
+                subst (λ (p : Course × Course). GoAlong m n p.0 p.1)
+                (λ i. (sym (heard-step m line lines step.entry e step.is) i, sym (heard-step n line lines step.twin e_too step.is_too) i)) (along, step.one, behind.heard_are);
+          }
+        where
+          heard-step : (m : Moment) (line : Line) (lines : List Line) (entry : CourseEntry) → refusal_at m line ≡ None → entry_of m.set line.bytes ≡ Ok entry → heard_from m (line ∷ lines) ≡ entry ∷ heard_from (after_entry m entry) lines
+          heard-step m line lines entry none is =
+              ap (λ o. cond (is_some o) [] (entries_in (entry_of m.set line.bytes) ++ heard_from (after_line m line) lines)) none
+              ∙ ap (λ found. entries_in found ++ heard_from (after m (entries_in found)) lines) is
 
-    -- by induction on the lines
-    pub hear-alike : (lines : List Line) (m n : Moment) → IsAlong a b first m n → AreFit m n lines → HearAlike m n lines
-    hear-alike [] m n along fit = record { refused_is = refl; heard_are = along }
-    hear-alike (line ∷ lines) m n along (inl plain) =
-        one-more line lines m n along (plain-alike line.number m n along line.bytes (All-head (λ (l : Line). is_control l.bytes ≡ false) line lines plain))
-        (λ p q then is is_too. hear-alike lines p q then (inl (All-tail (λ (l : Line). is_control l.bytes ≡ false) line lines plain)))
-    hear-alike (line ∷ lines) m n along (inr (none, none_too)) =
-        let first_is = first_none (refusal_at m line) (refused_from (after_line m line) lines) none in
-        let first_too = first_none (refusal_at n line) (refused_from (after_line n line) lines) none_too in
-        one-more line lines m n along
-        (record { refused_is = first_is ∙ sym first_too; step = λ e. line-step a b first m n along line.number alike line.bytes first_is first_too })
-        (λ p q then is is_too. hear-alike lines p q then (inr (
-          ap (λ x. refused_from x lines) is ∙ second_none (refusal_at m line) (refused_from (after_line m line) lines) none,
-          ap (λ x. refused_from x lines) is_too ∙ second_none (refusal_at n line) (refused_from (after_line n line) lines) none_too,
-        )))
+  -- by induction on the lines
+  pub hear-alike : (lines : List Line) (m n : Moment) → IsAlong a b first m n → AreFit m n lines → HearAlike m n lines
+  hear-alike [] m n along fit = record { refused_is = refl; heard_are = along }
+  hear-alike (line ∷ lines) m n along (inl (alike, plain)) =
+      one-more line lines m n along (plain-alike alike line.number m n along line.bytes (All-head (λ (l : Line). is_control l.bytes ≡ false) line lines plain))
+      (λ p q then is is_too. hear-alike lines p q then (inl (alike, All-tail (λ (l : Line). is_control l.bytes ≡ false) line lines plain)))
+  hear-alike (line ∷ lines) m n along (inr (alike, none, none_too)) =
+      let first_is = first_none (refusal_at m line) (refused_from (after_line m line) lines) none in
+      let first_too = first_none (refusal_at n line) (refused_from (after_line n line) lines) none_too in
+      one-more line lines m n along
+      (record { refused_is = first_is ∙ sym first_too; step = λ e. line-step a b first m n along line.number alike line.bytes first_is first_too })
+      (λ p q then is is_too. hear-alike lines p q then (inr (
+        alike,
+        ap (λ x. refused_from x lines) is ∙ second_none (refusal_at m line) (refused_from (after_line m line) lines) none,
+        ap (λ x. refused_from x lines) is_too ∙ second_none (refusal_at n line) (refused_from (after_line n line) lines) none_too,
+      )))
 
   -- courses that go along have the same entries
   pub along-entries : (m n : Moment) (course other : Course) → GoAlong m n course other → AllZip (AreOneEntry a.streams b.streams) course other

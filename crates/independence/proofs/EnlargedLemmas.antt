@@ -17,7 +17,7 @@ lines_are_read_alike text other_text judged other line accepts accepts_too adds 
 
 -- nor the fault of a line
 pub lines_stay : AddedQueriesChangeNoLine
-lines_stay text other_text judged other history other_history accepts accepts_too adds same = λ k d inside.
+lines_stay text other_text judged other history other_history accepts accepts_too enlarges same = λ k d inside.
     reads_alone text other_text judged other history other_history accepts accepts_too (kinds_in judged.streams) (kinds_in other.streams) (accepted_are_programs text judged accepts) (accepted_are_programs other_text other accepts_too) k d inside
-    (λ s stated read. All-contains (Contains other.statements) judged.statements s adds.all_stand stated)
-    (hear-same judged other (accepted-stands text judged accepts) (accepted-stands other_text other accepts_too) adds history other_history same (get_or (program_of judged).queries k d).name)
+    (λ s stated read. All-contains (Contains other.statements) judged.statements s enlarges stated)
+    (hear-same judged other (accepted-stands text judged accepts) (accepted-stands other_text other accepts_too) enlarges history other_history same (get_or (program_of judged).queries k d).name)

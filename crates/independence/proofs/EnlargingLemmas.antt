@@ -11,7 +11,7 @@ use Rattle.semantics.specs.Histories.{Event, heard_on, times}
 use Rattle.stream_schema.specs.Streams.{Entry, number_of, stream_names}
 use Rattle.cel_grammar.specs.Trees as tree
 use Rattle.catalogue.specs.Judgement.{Judged}
-use Rattle.independence.specs.Enlarging.{AddQueries, SameEventsHaveSameTimes}
+use Rattle.independence.specs.Enlarging.{Enlarge, SameEventsHaveSameTimes}
 use Rattle.independence.specs.Hearing.{AreOneEvent, AreTheSameEvents, HearTheSame, heard_by_name}
 use Rattle.independence.proofs.AcceptedLemmas.{IsOfDeclaration, Stands, declared-at, declared-number}
 use Rattle.independence.proofs.PublishedLemmas.{contains-at}
@@ -93,14 +93,14 @@ module _ (streams others : List Entry) (apart : AllPairs (λ x y. x ≢ y) (stre
       one-more false true event other xs ys e tuples rest = cc
 
 -- on each declared stream the same tuples were heard
-pub hear-same : (a b : Judged) → Stands a → Stands b → AddQueries a.statements b.statements → (history others : List Event) → AreTheSameEvents a.streams b.streams history others → (query : List ℕ) → HearTheSame a b history others query
+pub hear-same : (a b : Judged) → Stands a → Stands b → Enlarge a.statements b.statements → (history others : List Event) → AreTheSameEvents a.streams b.streams history others → (query : List ℕ) → HearTheSame a b history others query
 hear-same a b s t enlarges history others same query k d inside read =
     at-entry (get_or a.declared k d) (slice_get-get_or a.declared k d inside)
   where
     at-entry : (e : Entry) → slice_get a.declared k ≡ Some e → heard_by_name a.streams history e.name ≡ heard_by_name b.streams others e.name
     at-entry e at =
         let is = All-contains (IsOfDeclaration a.statements) a.declared e s.declarations (contains-at a.declared k e at) in
-        let stands = All-contains (Contains b.statements) a.statements (tree.Stream e.name is.columns) enlarges.all_stand is.stands in
+        let stands = All-contains (Contains b.statements) a.statements (tree.Stream e.name is.columns) enlarges is.stands in
         let (m, schema, is_too, m_inside, there, found) = declared-number b t e.name is.columns stands in
         let own : number_of e.name a.streams ≡ Some k = number-at a.streams s.apart k e (declared-at a s k e at) in
         ap (λ o. option_map_or (heard_on history) o []) own ∙ heard-same a.streams b.streams s.apart t.apart e.name k m own found history others same ∙ ap (λ o. option_map_or (heard_on others) o []) (sym found)

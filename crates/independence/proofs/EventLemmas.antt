@@ -1,5 +1,5 @@
 -- How event lines are read where queries are added.
-use Rattle.std.proofs.Common.{◌≡◌, ◌∙◌, ℕ, ◌+◌, ◌==◌, List, [], ◌∷◌, Bool, true, false, cond, length, refl, sym, ap, inl, inr}
+use Rattle.std.proofs.Common.{◌≡◌, ◌∙◌, ℕ, ◌+◌, ◌==◌, List, [], ◌∷◌, Bool, true, false, cond, length, refl, sym, ap, subst, ◌⊎◌, inl, inr}
 use Rattle.std.specs.Prelude.{Option, Some, None, Result, Ok, Err, Contains, option_map, slice_get}
 use Rattle.std.specs.Str.{is_utf8}
 use Rattle.std.proofs.lemmas.Bool.{cases_Bool}
@@ -13,12 +13,13 @@ use Rattle.cel_grammar.specs.Trees.{Statement}
 use Rattle.cel_grammar.specs.Trees as tree
 use Rattle.catalogue.specs.Judgement.{Judged}
 use Rattle.catalogue.specs.Statements.{is_query}
+use Rattle.event_csv.specs.declared.event.Seen.{Seen}
 use Rattle.event_csv.specs.declared.fault.LineFault.{LineFault}
 use Rattle.event_csv.specs.declared.fault.LineFault.TheVariants as fault
 use Rattle.event_csv.specs.Event.{Span, declared_stream, event, event_of, event_with, if_declared, known_event, record_event, span_of, values_of}
 use Rattle.event_csv.specs.Fields.{line_fields}
 use Rattle.event_csv.specs.Lines.{is_long}
-use Rattle.independence.specs.Enlarging.{AreReadAlike, AddQueries}
+use Rattle.independence.specs.Enlarging.{AddQueries, AreReadAlike, Enlarge}
 use Rattle.independence.specs.Hearing.{HaveOneName}
 use Rattle.independence.proofs.AcceptedLemmas.{IsOfDeclaration, Stands, declaration-of, declared-number, entry_of}
 use Rattle.independence.proofs.TableLemmas.{number-found}
@@ -69,6 +70,26 @@ module _ (streams others : List Entry) where
     lines-alike : (line : List ℕ) → AreReadAlike streams others (event streams line) (event others line)
     lines-alike line = by-bytes (is_long line) (is_utf8 line) (line_fields line)
 
+  module _ (taken : (name : List ℕ) → (declared_stream streams (number_of name streams) ≡ None) ⊎ AreFoundAlike streams others (declared_stream streams (number_of name streams)) (declared_stream others (number_of name others))) where
+    -- where the first fields are an event, so are the second, and it is the same one
+    known-taken : (p q : Option (ℕ × List Kind)) → (p ≡ None) ⊎ AreFoundAlike streams others p q → (fields : List (List ℕ)) (seen : Seen) → known_event p fields ≡ Ok seen → AreReadAlike streams others (Ok seen) (known_event q fields)
+    known-taken p q (inl none) fields seen is = let refused : Err fault.UnknownStream ≡ Ok seen = sym (ap (λ o. known_event o fields) none) ∙ is in cc
+    known-taken p q (inr alike) fields seen is = subst (λ found. AreReadAlike streams others found (known_event q fields)) is (known-alike alike fields)
+
+    record-taken : (record_fields : Option (List (List ℕ))) (seen : Seen) → record_event streams record_fields ≡ Ok seen → AreReadAlike streams others (Ok seen) (record_event others record_fields)
+    record-taken None seen is = cc
+    record-taken (Some []) seen is = cc
+    record-taken (Some (name ∷ fields)) seen is = known-taken (declared_stream streams (number_of name streams)) (declared_stream others (number_of name others)) (taken name) fields seen is
+
+    bytes-taken : (long utf8 : Bool) (record_fields : Option (List (List ℕ))) (seen : Seen) → cond long (Err fault.LineTooLong) (cond utf8 (record_event streams record_fields) (Err fault.NotUtf8)) ≡ Ok seen
+        → AreReadAlike streams others (Ok seen) (cond long (Err fault.LineTooLong) (cond utf8 (record_event others record_fields) (Err fault.NotUtf8)))
+    bytes-taken true utf8 record_fields seen is = cc
+    bytes-taken false true record_fields seen is = record-taken record_fields seen is
+    bytes-taken false false record_fields seen is = cc
+
+    lines-taken : (line : List ℕ) (seen : Seen) → event streams line ≡ Ok seen → AreReadAlike streams others (Ok seen) (event others line)
+    lines-taken line = bytes-taken (is_long line) (is_utf8 line) (line_fields line)
+
 -- the declared stream of a name, if there is one
 found-declared : (streams : List Entry) (n : ℕ) (e : Entry) → slice_get streams n ≡ Some e → e.declared ≡ true → declared_stream streams (Some n) ≡ Some (n, kinds_of e.schema)
 found-declared streams n e at is = ap (if_declared n) at ∙ ap (λ b. cond b (Some (n, kinds_of e.schema)) None) is
@@ -97,12 +118,12 @@ module _ (judged : Judged) (s : Stands judged) (name : List ℕ) where
   name-declared : IsDeclaredName judged.statements judged.streams name
   name-declared = by-number (number_of name judged.streams) refl
 
-module _ (a b : Judged) (s : Stands a) (t : Stands b) (enlarges : AddQueries a.statements b.statements) (name : List ℕ) where
+module _ (a b : Judged) (s : Stands a) (t : Stands b) (enlarges : Enlarge a.statements b.statements) (name : List ℕ) where
   -- a declared stream of the first text, in both
   both-declared : (n : ℕ) (e : Entry) → number_of name a.streams ≡ Some n → slice_get a.streams n ≡ Some e → e.name ≡ name → IsOfDeclaration a.statements e
       → AreFoundAlike a.streams b.streams (declared_stream a.streams (number_of name a.streams)) (declared_stream b.streams (number_of name b.streams))
   both-declared n e found at named is =
-      let stands = All-contains (Contains b.statements) a.statements (tree.Stream e.name is.columns) enlarges.all_stand is.stands in
+      let stands = All-contains (Contains b.statements) a.statements (tree.Stream e.name is.columns) enlarges is.stands in
       let (m, schema, is_too, inside, there, there_found) = declared-number b t e.name is.columns stands in
       let schemas : schema ≡ e.schema = is_too.value ∙ sym is.schema_is.value in
       let first : declared_stream a.streams (number_of name a.streams) ≡ Some (n, kinds_of e.schema) = ap (declared_stream a.streams) found ∙ found-declared a.streams n e at is.declared in
@@ -115,12 +136,19 @@ module _ (a b : Judged) (s : Stands a) (t : Stands b) (enlarges : AddQueries a.s
       } in
       rw (first, second) (both one)
 
-  -- a name of no declared stream of the first text
+  -- so a name is found alike, or is that of no declared stream of the first text
+  found-alike : IsDeclaredName a.statements a.streams name
+      → (declared_stream a.streams (number_of name a.streams) ≡ None) ⊎ AreFoundAlike a.streams b.streams (declared_stream a.streams (number_of name a.streams)) (declared_stream b.streams (number_of name b.streams))
+  found-alike (is_declared n e found at named is) = inr (both-declared n e found at named is)
+  found-alike (is_other none) = inl none
+
+module _ (a b : Judged) (s : Stands a) (t : Stands b) (adds : AddQueries a.statements b.statements) (name : List ℕ) where
+  -- a name of no declared stream of the first text is that of none of the second
   neither-declared : declared_stream a.streams (number_of name a.streams) ≡ None → IsDeclaredName b.statements b.streams name
       → AreFoundAlike a.streams b.streams (declared_stream a.streams (number_of name a.streams)) (declared_stream b.streams (number_of name b.streams))
   neither-declared none (is_other none_too) = rw (none, none_too) neither
   neither-declared none (is_declared n e found at named is) =
-      let stands = All-contains (λ u. is_query u ≡ false → Contains a.statements u) b.statements (tree.Stream e.name is.columns) enlarges.no_stream_more is.stands refl in
+      let stands = All-contains (λ u. is_query u ≡ false → Contains a.statements u) b.statements (tree.Stream e.name is.columns) adds.no_stream_more is.stands refl in
       let (m, schema, is_too, inside, there, there_found) = declared-number a s e.name is.columns stands in
       let some : declared_stream a.streams (number_of name a.streams) ≡ Some (m, kinds_of schema) =
       ap (declared_stream a.streams) (ap (λ x. number_of x a.streams) (sym named) ∙ there_found) ∙ found-declared a.streams m (entry_of e.name schema) there refl in
@@ -128,9 +156,13 @@ module _ (a b : Judged) (s : Stands a) (t : Stands b) (enlarges : AddQueries a.s
 
   -- so each name is found alike
   by-first : IsDeclaredName a.statements a.streams name → AreFoundAlike a.streams b.streams (declared_stream a.streams (number_of name a.streams)) (declared_stream b.streams (number_of name b.streams))
-  by-first (is_declared n e found at named is) = both-declared n e found at named is
+  by-first (is_declared n e found at named is) = both-declared a b s t adds.all_stand name n e found at named is
   by-first (is_other none) = neither-declared none (name-declared b t name)
 
--- each line is read alike
+-- each line is read alike where no stream is declared beside
 pub read-alike : (a b : Judged) → Stands a → Stands b → AddQueries a.statements b.statements → (line : List ℕ) → AreReadAlike a.streams b.streams (event a.streams line) (event b.streams line)
-read-alike a b s t enlarges line = lines-alike a.streams b.streams (λ name. by-first a b s t enlarges name (name-declared a s name)) line
+read-alike a b s t adds line = lines-alike a.streams b.streams (λ name. by-first a b s t adds name (name-declared a s name)) line
+
+-- and each event of the first text is the same one of an enlarged text
+pub taken-alike : (a b : Judged) → Stands a → Stands b → Enlarge a.statements b.statements → (line : List ℕ) (seen : Seen) → event a.streams line ≡ Ok seen → AreReadAlike a.streams b.streams (Ok seen) (event b.streams line)
+taken-alike a b s t enlarges = lines-taken a.streams b.streams (λ name. found-alike a b s t enlarges name (name-declared a s name))

@@ -17,7 +17,7 @@ use Rattle.catalogue.specs.Judgement.{Accepts, Judged, program_of}
 use Rattle.catalogue.specs.Statements.{name_of, queries_in}
 use Rattle.catalogue.specs.Typing.{Publish, none, next, published_by}
 use Rattle.catalogue.proofs.ProgramLemmas.{accepted_are_programs}
-use Rattle.independence.specs.Enlarging.{AddQueries}
+use Rattle.independence.specs.Enlarging.{Enlarge}
 use Rattle.independence.proofs.AcceptedLemmas.{Stands, accepted-stands, entry_of}
 use Rattle.independence.proofs.KeptLemmas.{IsKept, IsNamed}
 use Rattle.independence.proofs.OwnLemmas.{OwnNames, reads-own}
@@ -77,7 +77,7 @@ module _ (text : List ℕ) (judged : Judged) (accepts : Accepts text judged) whe
         named = All-weaker (λ q. (u : Statement) × Contains (queries_in judged.statements) u × IsOf judged.streams u q) (IsNamed judged.streams) named-of judged.published s.queries;
       }
 
-module _ (text other_text : List ℕ) (a b : Judged) (accepts : Accepts text a) (accepts_too : Accepts other_text b) (adds : AddQueries a.statements b.statements) where
+module _ (text other_text : List ℕ) (a b : Judged) (accepts : Accepts text a) (accepts_too : Accepts other_text b) (enlarges : Enlarge a.statements b.statements) where
   s : Stands a
   s = accepted-stands text a accepts
 
@@ -89,7 +89,7 @@ module _ (text other_text : List ℕ) (a b : Judged) (accepts : Accepts text a) 
   every-name name = true
 
   shared : (u : Statement) → Contains a.statements u → IsTrue (every-name (name_of u)) → Contains b.statements u
-  shared u stated shares = All-contains (Contains b.statements) a.statements u adds.all_stand stated
+  shared u stated shares = All-contains (Contains b.statements) a.statements u enlarges stated
 
   -- the number of a stream of its name
   abbrev pub first : ℕ → ℕ

@@ -1,6 +1,6 @@
 -- Each query of a set, and each that a control line adds, has the same lines where queries are added.
 use Rattle.std.proofs.Common.{◌≡◌, ◌∙◌, ℕ, ◌-◌, ◌<◌, List, [], Bool, true, get_or, length, refl, sym, ap, subst, inl, inr}
-use Rattle.std.specs.Prelude.{Result, Some, slice_get, Contains, IsTrue}
+use Rattle.std.specs.Prelude.{Result, Ok, Some, slice_get, Contains, IsTrue}
 use Rattle.std.specs.List.{All, flat_map}
 use Rattle.std.proofs.lemmas.List.Elements.{All-contains, All-weaker, Contains-get_or}
 use Rattle.std.proofs.lemmas.Option.{slice_get-get_or}
@@ -26,17 +26,18 @@ use Rattle.courses.specs.Course.{events_in, start}
 use Rattle.courses.specs.QuerySet.{QuerySet, set_of}
 use Rattle.courses.specs.Reports.{closed_in, heard_in, refused_in}
 use Rattle.independence.specs.Courses.{AddedQueriesChangeNoCourse, CourseAlike, HaveTwinsAt}
-use Rattle.independence.specs.Enlarging.{AddQueries, AreReadAlike}
+use Rattle.independence.specs.Enlarging.{AddQueries, AreReadAlike, Enlarge}
 use Rattle.independence.specs.Hearing.{AreTheSameEvents}
 use Rattle.independence.specs.Independence.{HasTwin}
 use Rattle.independence.specs.Reports.{AddedQueriesChangeNoReport}
 use Rattle.independence.proofs.AcceptedLemmas.{IsOfDeclaration, Stands, accepted-stands, declared-at, declared-number, entry_of}
-use Rattle.independence.proofs.AlongLemmas.{IsAlong}
+use Rattle.independence.proofs.AlongLemmas.{IsAlong, ReadAlike, TakeAlike}
 use Rattle.independence.proofs.InsideLemmas.{IsInside}
 use Rattle.independence.proofs.ClosedLemmas.{at-time, ended-along, same-events}
 use Rattle.independence.proofs.CourseLemmas.{AreFit, GoAlong, HearAlike, along-entries, hear-alike}
 use Rattle.independence.proofs.EnlargedLemmas.{lines_are_read_alike, lines_stay}
 use Rattle.independence.proofs.EnlargingLemmas.{heard-same, same_times}
+use Rattle.independence.proofs.EventLemmas.{taken-alike}
 use Rattle.independence.proofs.FirstLemmas.{first, kept-first, within-first}
 use Rattle.independence.proofs.KeptLemmas.{kept-hidden}
 use Rattle.independence.proofs.PublishedLemmas.{contains-at}
@@ -54,9 +55,9 @@ reads-any (Union x y) = (reads-any x, reads-any y)
 reads-any (Next p x y) = (reads-any x, reads-any y)
 reads-any (Fold p q m x y) = (reads-any x, reads-any y)
 
-module _ (text other_text : List ℕ) (a b : Judged) (accepts : Accepts text a) (accepts_too : Accepts other_text b) (adds : AddQueries a.statements b.statements) where
+module _ (text other_text : List ℕ) (a b : Judged) (accepts : Accepts text a) (accepts_too : Accepts other_text b) (enlarges : Enlarge a.statements b.statements) where
   abbrev number : ℕ → ℕ
-  number = first text other_text a b accepts accepts_too adds
+  number = first text other_text a b accepts accepts_too enlarges
 
   s : Stands a
   s = accepted-stands text a accepts
@@ -79,18 +80,27 @@ module _ (text other_text : List ℕ) (a b : Judged) (accepts : Accepts text a) 
           number = number;
           kept = kept-hidden a.declared a.streams (program_of a) kept (hidden a) all;
           kept_too = kept-hidden b.declared b.streams (program_of b) kept_too (hidden b) (hidden-all (length b.streams) (end_of (program_of b) - length b.streams));
-          within = within-hidden number number a.declared b.declared a.streams b.streams (program_of a) (program_of b) kept kept_too (within-first text other_text a b accepts accepts_too adds) (hidden a) (hidden b) all;
+          within = within-hidden number number a.declared b.declared a.streams b.streams (program_of a) (program_of b) kept kept_too (within-first text other_text a b accepts accepts_too enlarges) (hidden a) (hidden b) all;
         };
         seen = refl;
         is_open = refl;
       }
 
-  -- each event line is read alike over the declared streams
-  pub declared-alike : (bytes : List ℕ) → AreReadAlike a.streams b.streams (event a.declared bytes) (event b.declared bytes)
-  declared-alike bytes =
-      subst (λ (p : Result Seen LineFault × Result Seen LineFault). AreReadAlike a.streams b.streams p.0 p.1)
-      (λ i. ((ap (λ es. event es bytes) s.parts ∙ undeclared_change_no_event a.declared s.more bytes s.undeclared) i, (ap (λ es. event es bytes) t.parts ∙ undeclared_change_no_event b.declared t.more bytes t.undeclared) i))
-      (lines_are_read_alike text other_text a b bytes accepts accepts_too adds)
+  -- the declared streams tell the event of a line
+  by-declared : (bytes : List ℕ) → event a.streams bytes ≡ event a.declared bytes
+  by-declared bytes = ap (λ es. event es bytes) s.parts ∙ undeclared_change_no_event a.declared s.more bytes s.undeclared
+
+  by-declared-too : (bytes : List ℕ) → event b.streams bytes ≡ event b.declared bytes
+  by-declared-too bytes = ap (λ es. event es bytes) t.parts ∙ undeclared_change_no_event b.declared t.more bytes t.undeclared
+
+  -- each event line is read alike over the declared streams, where none is declared beside
+  pub declared-alike : AddQueries a.statements b.statements → ReadAlike a b
+  declared-alike adds bytes =
+      subst (λ (p : Result Seen LineFault × Result Seen LineFault). AreReadAlike a.streams b.streams p.0 p.1) (λ i. (by-declared bytes i, by-declared-too bytes i)) (lines_are_read_alike text other_text a b bytes accepts accepts_too adds)
+
+  -- and each event over those of the first text is the same one over those of the second
+  pub declared-taken : TakeAlike a b
+  declared-taken bytes seen is = subst (AreReadAlike a.streams b.streams (Ok seen)) (by-declared-too bytes) (taken-alike a b s t enlarges bytes seen (by-declared bytes ∙ is))
 
   module _ (history others : List Event) (same : AreTheSameEvents a.streams b.streams history others) where
     -- on each declared stream the same tuples were heard
@@ -99,7 +109,7 @@ module _ (text other_text : List ℕ) (a b : Judged) (accepts : Accepts text a) 
         let e : Entry = get_or a.declared n (entry_of [] []) in
         let at : slice_get a.declared n ≡ Some e = slice_get-get_or a.declared n (entry_of [] []) less in
         let is = All-contains (IsOfDeclaration a.statements) a.declared e s.declarations (contains-at a.declared n e at) in
-        let stands = All-contains (Contains b.statements) a.statements (tree.Stream e.name is.columns) adds.all_stand is.stands in
+        let stands = All-contains (Contains b.statements) a.statements (tree.Stream e.name is.columns) enlarges is.stands in
         let (m, schema, is_too, inside, there, found) = declared-number b t e.name is.columns stands in
         let own : number_of e.name a.streams ≡ Some n = number-at a.streams s.apart n e (declared-at a s n e at) in
         heard-same a.streams b.streams s.apart t.apart e.name n m own found history others same
@@ -130,7 +140,7 @@ module _ (text other_text : List ℕ) (a b : Judged) (accepts : Accepts text a) 
 
   module _ (events : List ℕ) (ended : Bool) (fit : AreFit a b number (start (set_of a)) (start (set_of b)) (lines events ended)) where
     heard : HearAlike a b number (start (set_of a)) (start (set_of b)) (lines events ended)
-    heard = hear-alike a b number declared-alike (lines events ended) (start (set_of a)) (start (set_of b)) along-start fit
+    heard = hear-alike a b number (lines events ended) (start (set_of a)) (start (set_of b)) along-start fit
 
     closed-along : GoAlong a b number (start (set_of a)) (start (set_of b)) (closed_in (set_of a) events ended) (closed_in (set_of b) events ended)
     closed-along = ended-along a b number (start (set_of a)) (start (set_of b)) (lines events ended) heard ended
@@ -165,15 +175,17 @@ module _ (text other_text : List ℕ) (a b : Judged) (accepts : Accepts text a) 
 -- added queries change no report
 pub reports_stay : AddedQueriesChangeNoReport
 reports_stay text other_text judged other events ended accepts accepts_too adds plain =
-    let closed = closed-events text other_text judged other accepts accepts_too adds events ended (inl plain) in
+    let fit = inl (declared-alike text other_text judged other accepts accepts_too adds.all_stand adds, plain) in
+    let closed = closed-events text other_text judged other accepts accepts_too adds.all_stand events ended fit in
     record {
-      refused_is = refused-same text other_text judged other accepts accepts_too adds events ended (inl plain);
-      heard_are = heard-events text other_text judged other accepts accepts_too adds events ended (inl plain);
+      refused_is = refused-same text other_text judged other accepts accepts_too adds.all_stand events ended fit;
+      heard_are = heard-events text other_text judged other accepts accepts_too adds.all_stand events ended fit;
       closed_are = closed;
       epochs_are = same_times judged.streams other.streams (events_in (closed_in (set_of judged) events ended)) (events_in (closed_in (set_of other) events ended)) closed;
-      lines_are = lines_stay text other_text judged other (events_in (closed_in (set_of judged) events ended)) (events_in (closed_in (set_of other) events ended)) accepts accepts_too adds closed;
+      lines_are = lines_stay text other_text judged other (events_in (closed_in (set_of judged) events ended)) (events_in (closed_in (set_of other) events ended)) accepts accepts_too adds.all_stand closed;
     }
 
 -- nor a course
 pub courses_stay : AddedQueriesChangeNoCourse
-courses_stay text other_text judged other events ended accepts accepts_too adds none none_too = courses-same text other_text judged other accepts accepts_too adds events ended (inr (none, none_too))
+courses_stay text other_text judged other events ended accepts accepts_too enlarges none none_too =
+    courses-same text other_text judged other accepts accepts_too enlarges events ended (inr (declared-taken text other_text judged other accepts accepts_too enlarges, none, none_too))

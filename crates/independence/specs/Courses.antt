@@ -1,4 +1,4 @@
--- Event texts with control lines, where queries are added.
+-- Event texts with control lines, where queries and streams are added.
 use Rattle.std.specs.Prelude.{◌≡◌, ℕ, Bool, List, None}
 use Rattle.std.specs.List.{All, AllZip}
 use Rattle.semantics.specs.Histories.{times}
@@ -7,7 +7,7 @@ use Rattle.catalogue.specs.Judgement.{Accepts, Judged}
 use Rattle.courses.specs.Course.{Adds, Course, CourseEntry, Drops, Hears, events_in, start}
 use Rattle.courses.specs.QuerySet.{set_of}
 use Rattle.courses.specs.Reports.{closed_in, heard_in, program_at, refused_in}
-use Rattle.independence.specs.Enlarging.{AddQueries}
+use Rattle.independence.specs.Enlarging.{Enlarge}
 use Rattle.independence.specs.Hearing.{AreOneEvent}
 use Rattle.independence.specs.Independence.{HasTwin}
 
@@ -39,5 +39,5 @@ pub record CourseAlike (judged other : Judged) (events : List ℕ) (ended : Bool
 -- a set of queries enlarged by others gives each query of the smaller set, and each that a control line adds, the same lines, where no line of the event text is refused with either
 abbrev pub AddedQueriesChangeNoCourse : Type 0
 AddedQueriesChangeNoCourse =
-    (text other_text : List ℕ) (judged other : Judged) (events : List ℕ) (ended : Bool) → Accepts text judged → Accepts other_text other → AddQueries judged.statements other.statements
+    (text other_text : List ℕ) (judged other : Judged) (events : List ℕ) (ended : Bool) → Accepts text judged → Accepts other_text other → Enlarge judged.statements other.statements
     → refused_in (set_of judged) events ended ≡ None → refused_in (set_of other) events ended ≡ None → CourseAlike judged other events ended

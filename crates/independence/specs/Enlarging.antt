@@ -12,9 +12,13 @@ use Rattle.event_csv.specs.Event.{event}
 use Rattle.independence.specs.Hearing.{AreTheSameEvents, HaveOneName}
 use Rattle.independence.specs.Independence.{HasTwin}
 
--- the others have each of these statements, in any order, and declare no stream beside
+-- the others have each of these statements, in any order, and may have more queries and declare more streams
+abbrev pub Enlarge : List Statement → List Statement → Type 0
+Enlarge statements others = All (Contains others) statements
+
+-- and they declare no stream beside
 pub record AddQueries (statements others : List Statement) : Type 0 where
-  pub all_stand : All (Contains others) statements
+  pub all_stand : Enlarge statements others
   pub no_stream_more : All (λ s. is_query s ≡ false → Contains statements s) others
 
 -- a line is one event, named by its stream, or has one fault
@@ -33,8 +37,8 @@ AddedQueriesChangeNoEvent =
 abbrev pub SameEventsHaveSameTimes : Type 0
 SameEventsHaveSameTimes = (streams others : List Entry) (history other_history : List Event) → AreTheSameEvents streams others history other_history → times history ≡ times other_history
 
--- over the same events each old query has the same lines at each time where queries are added
+-- over the same events each old query has the same lines at each time in an enlarged text
 abbrev pub AddedQueriesChangeNoLine : Type 0
 AddedQueriesChangeNoLine =
-    (text other_text : List ℕ) (judged other : Judged) (history other_history : List Event) → Accepts text judged → Accepts other_text other → AddQueries judged.statements other.statements
+    (text other_text : List ℕ) (judged other : Judged) (history other_history : List Event) → Accepts text judged → Accepts other_text other → Enlarge judged.statements other.statements
     → AreTheSameEvents judged.streams other.streams history other_history → All (HasTwin (program_of judged) (program_of other) history other_history) (program_of judged).queries

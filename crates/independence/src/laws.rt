@@ -20,7 +20,8 @@ pub fn same_events_have_same_times()
     ensures { SameEventsHaveSameTimes }
 {}
 
-/// A set of queries that is enlarged by others gives each old query the same lines.
+/// A set of queries that is enlarged by others, whatever streams they declare beside, gives each old query
+/// the same lines over the same events.
 pub fn added_queries_change_no_line()
     ensures { AddedQueriesChangeNoLine }
 {}
@@ -30,8 +31,9 @@ pub fn added_queries_change_no_report()
     ensures { AddedQueriesChangeNoReport }
 {}
 
-/// A set of queries that is enlarged by others gives each query of the smaller set, and each that a
-/// control line adds, the same lines, where no line of the event text is refused with either.
+/// A set of queries that is enlarged by others, whatever streams they declare beside, gives each query of
+/// the smaller set, and each that a control line adds, the same lines, where no line of the event text is
+/// refused with either.
 pub fn added_queries_change_no_course()
     ensures { AddedQueriesChangeNoCourse }
 {}
