@@ -1,0 +1,16 @@
+pub mod Derivation
+pub mod DerivedTuples
+pub mod DerivedPrograms
+pub mod Derives
+pub mod Codes
+pub mod Views
+pub mod DerivationOrder
+pub mod DerivationOrderLaws
+pub mod HeardLines
+pub mod Earliest
+pub mod Folds
+pub mod Fitting
+pub mod Tables
+pub mod Queries
+pub mod Texts
+pub mod Laws
