@@ -1,0 +1,12 @@
+pub mod DecodedLemmas
+pub mod Examples
+pub mod FieldLemmas
+pub mod ImageLemmas
+pub mod ListLemmas
+pub mod ListReads
+pub mod NumberLemmas
+pub mod Short
+pub mod ShortLemmas
+pub mod Taking
+pub mod TupleLemmas
+pub mod ValueLemmas
