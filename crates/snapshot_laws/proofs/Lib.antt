@@ -1,0 +1,4 @@
+pub mod FillingLemmas
+pub mod Renumbered
+pub mod RenumberedReports
+pub mod RenumberedStores
