@@ -22,6 +22,7 @@ pub mod Lists
 pub mod MarkLemmas
 pub mod MeetLemmas
 pub mod Moves
+pub mod OldestLemmas
 pub mod OrderLemmas
 pub mod PairLemmas
 pub mod Pairs

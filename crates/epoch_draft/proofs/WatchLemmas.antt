@@ -36,7 +36,7 @@ use Rattle.epoch_draft.proofs.StayLemmas.{stay_same, stay_set, stay_trans}
 use Rattle.epoch_draft.proofs.StoreLemmas.{condition_is}
 
 -- where all instances stay, each is alive
-alive_all : (time : ℕ) (choose : List Pr) (instances : List Instance) → alive_instances time choose instances ≡ instances → All (λ (i : Instance). is_alive time choose i.tuple ≡ true) instances
+pub alive_all : (time : ℕ) (choose : List Pr) (instances : List Instance) → alive_instances time choose instances ≡ instances → All (λ (i : Instance). is_alive time choose i.tuple ≡ true) instances
 alive_all time choose instances all = All-same (λ (i : Instance). is_alive time choose i.tuple ≡ true) _ _ (sym all) (filter_passes (λ (i : Instance). is_alive time choose i.tuple) instances)
 
 -- some stores were purged, and each is watched

@@ -1,14 +1,14 @@
 //! The deadlines of states.
-ghost use Rattle.std.specs.Prelude.{◌+◌, ◌<◌, ◌≤◌, ◌≡◌, All, Some, length, slice_index, slice_set};
+ghost use Rattle.std.specs.Prelude.{◌+◌, ◌<◌, ◌≤◌, ◌≡◌, [], All, Any, IfNone, IfSome, Some, length, slice_index, slice_set};
 ghost use Rattle.automaton.specs.States.{wait_at};
 ghost use Rattle.automaton.specs.declared.wait.Wait.{Wait};
 ghost use Rattle.instances.specs.Bounds.{AreAliveUntil};
-ghost use Rattle.epoch_draft.specs.Watching.{ArePurgedEach, Watches};
+ghost use Rattle.epoch_draft.specs.Watching.{ArePurgedEach, IsNeeded, Watches};
 
 use crate::purging::purge;
 use crate::stores::Stores;
 use automaton::Network;
-use deadlines::Deadlines;
+use deadlines::{Deadlines, NEVER};
 use inst_chain::Chain;
 use instances::{Instance, expires_at};
 use scalar_expr::Conj;
@@ -40,6 +40,7 @@ pub(crate) fn lower_at(
     ensures lowered { deadlines.new ≡ slice_set deadlines.old number (slice_index deadlines.new number) }
     ensures earlier { slice_index deadlines.new number ≤ slice_index deadlines.old number }
     ensures until { (wait : Wait) → wait_at network.now number ≡ Some wait → AreAliveUntil (slice_index deadlines.new number) wait.choose beads.now }
+    ensures needed { slice_index deadlines.new number < slice_index deadlines.old number → (wait : Wait) × (wait_at network.now number ≡ Some wait) × IsNeeded (slice_index deadlines.old number) (slice_index deadlines.new number) wait.choose beads.now }
 {
     if !network.used(number) {
         return;
@@ -55,26 +56,33 @@ fn lower(deadlines: &mut Deadlines, number: usize, condition: &Conj, beads: &Cha
     ensures lowered { deadlines.new ≡ slice_set deadlines.old number (slice_index deadlines.new number) }
     ensures earlier { slice_index deadlines.new number ≤ slice_index deadlines.old number }
     ensures until { AreAliveUntil (slice_index deadlines.new number) condition.now beads.now }
+    ensures needed { IsNeeded (slice_index deadlines.old number) (slice_index deadlines.new number) condition.now beads.now }
 {
     let deadline = deadline_of(condition, beads).min(deadlines.get(number));
     deadlines.set(number, deadline);
 }
 
-// A time until which each of these instances is alive.
+// The first time at which one of these instances is alive no more, or `NEVER`.
 fn deadline_of(condition: &Conj, beads: &Chain<Instance>) -> u128
-    ensures { AreAliveUntil result condition.now beads.now }
+    ensures until { AreAliveUntil result condition.now beads.now }
+    ensures needed { IsNeeded NEVER result condition.now beads.now }
 {
-    expires_at(condition, oldest_start(beads))
+    match oldest_start(beads) {
+        Some(oldest) => expires_at(condition, oldest),
+        None => NEVER,
+    }
 }
 
-// A time before which none of these instances starts.
-fn oldest_start(beads: &Chain<Instance>) -> u64
-    ensures { All (λ instance. result ≤ instance.tuple.from) beads.now }
+// The start of the instance that starts first, where there is one.
+fn oldest_start(beads: &Chain<Instance>) -> Option<u64>
+    ensures none { IfNone result (beads.now ≡ []) }
+    ensures all { IfSome result (λ oldest. All (λ instance. oldest ≤ instance.tuple.from) beads.now) }
+    ensures is_one { IfSome result (λ oldest. Any (λ instance. instance.tuple.from ≡ oldest) beads.now) }
 {
-    let mut oldest = u64::MAX;
     let mut look = beads.look();
+    let mut oldest = look.next()?.tuple.from();
     while let Some(instance) = look.next() {
         oldest = oldest.min(instance.tuple.from());
     }
-    oldest
+    Some(oldest)
 }
