@@ -24,6 +24,7 @@ pub mod ReadLemmas
 pub mod RiseLemmas
 pub mod StandsLemmas
 pub mod StateTests
+pub mod StoredLemmas
 pub mod StreamLemmas
 pub mod SumLemmas
 pub mod TestSums

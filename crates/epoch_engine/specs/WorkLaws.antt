@@ -39,6 +39,10 @@ pub record StandsOpen (engine : EngineView) (lines : List BornLine) (states : Li
 abbrev pub AreStored : EngineView → (Prefix → List TupleView) → Type 0
 AreStored engine stored = (number : ℕ) (prefix : Prefix) (hop : Hop) → IsAt engine.network number (After prefix hop) → stored (After prefix hop) ≡ bindings_of (stores_in engine number)
 
+-- whatever an engine stands for, there are such bindings
+abbrev pub StoredAreThere : Type 0
+StoredAreThere = (engine : EngineView) (lines : List BornLine) (history : List Event) → EngineStandsFor engine lines history → (stored : Prefix → List TupleView) × AreStored engine stored
+
 -- the tests that the closing of an engine's epoch may take
 abbrev pub closing_tests : EngineView → ℕ
 closing_tests engine = epoch_work engine.network engine.layout (stores_in engine) (streams_of engine.opened)

@@ -96,6 +96,7 @@ impl Epoch {
         ensures as_many { length self.new.tuples ≡ length self.old.tuples }
         ensures empty { (stream : ℕ) → slice_index_or self.new.tuples stream [] ≡ [] }
         ensures touched { AreTouched self.new.tuples self.new.touched }
+        ensures unmarked { self.new.touched.numbers ≡ [] }
         ensures time { self.new.time ≡ None }
     {
         self.spare

@@ -1,7 +1,7 @@
 //! Laws of engines over the histories for which they stand.
 ghost use Rattle.epoch_engine.specs.AddingLaws.{AddedLinesAreThere, AddedStands, BornLinesAreItsOwn, DroppedStands, OtherLinesStay};
 ghost use Rattle.epoch_engine.specs.Laws.{BatchIsStreams, ClosedStands, NewStands, OfferedStands, TrimmedIsCounted, TrimmedStands, UnbornAreCounted};
-ghost use Rattle.epoch_engine.specs.WorkLaws.{FewerAskForLess, StoredAskForAll, WaitingAskForAll};
+ghost use Rattle.epoch_engine.specs.WorkLaws.{FewerAskForLess, StoredAreThere, StoredAskForAll, WaitingAskForAll};
 
 /// A new engine over lines without births stands for the empty history.
 pub fn new_stands()
@@ -43,6 +43,11 @@ pub fn unborn_are_counted()
 /// of these.
 pub fn fewer_ask_for_less()
     ensures { FewerAskForLess }
+{}
+
+/// The bindings that an engine stores can be told by the prefixes of its states.
+pub fn stored_are_there()
+    ensures { StoredAreThere }
 {}
 
 /// The closing of an epoch takes no more tests than the epoch asks for with what is stored.

@@ -26,6 +26,7 @@ pub use engine::Engine;
 pub use fault::OfferFault;
 pub use laws::{
     added_lines_are_there, batch_is_streams, born_lines_are_its_own, closed_stands,
-    fewer_ask_for_less, new_stands, offered_stands, other_lines_stay, stored_ask_for_all,
-    trimmed_is_counted, trimmed_stands, unborn_are_counted, waiting_ask_for_all,
+    fewer_ask_for_less, new_stands, offered_stands, other_lines_stay, stored_are_there,
+    stored_ask_for_all, trimmed_is_counted, trimmed_stands, unborn_are_counted,
+    waiting_ask_for_all,
 };
