@@ -2,10 +2,12 @@
 use Rattle.std.proofs.Common.{◌≡◌, ℕ, List, [], ◌++◌, None, Some, refl, sym, ap, ◌∙◌, arith, append_assoc, Option}
 use mathlib.Core.Path.{fun_ext}
 use Rattle.std.specs.Io.KnownBytes.{prepend_known}
+use Rattle.cay_host.specs.declared.call.Call.{Call}
 use Rattle.cay_host.specs.declared.side.Side.{Side}
 use Rattle.cay_host.specs.declared.side.Side.TheVariants.{Queries, Events}
 use Rattle.cay_host.specs.Sides.{with_side}
 use Rattle.cay_host.specs.Told.{Told}
+use Rattle.cay_host.specs.Calls.{FailedLast}
 use Rattle.cay_host.specs.Input.{SameButRead}
 
 -- functions of a side that agree at both agree at each
@@ -36,6 +38,11 @@ prepend_known-nil (Some x) = refl
 pub prepend_known-append : (bs cs : List ℕ) (a : Option (List ℕ)) → prepend_known bs (prepend_known cs a) ≡ prepend_known (bs ++ cs) a
 prepend_known-append bs cs None = refl
 prepend_known-append bs cs (Some x) = ap Some (sym (append_assoc bs cs x))
+
+-- behind calls of which the last didn't fail, the last call came out as it says of itself
+pub FailedLast-after : (tells : Option Call) (a b c : Told) → FailedLast None a b → FailedLast tells b c → FailedLast tells a c
+FailedLast-after None a b c p q = λ none. q (p none)
+FailedLast-after (Some call) a b c p q = q
 
 -- where nothing changes, nothing but a read does
 pub SameButRead-refl : (s : Side) (a : Told) → SameButRead s a a

@@ -1,15 +1,18 @@
 -- What a host tells of itself.
 use Rattle.std.specs.Prelude.{◌≡◌, ◌≤◌, ◌-◌, ◌^◌, ℕ, List, Bool, false, Option}
+use Rattle.cay_host.specs.declared.call.Call.{Call}
 use Rattle.cay_host.specs.declared.side.Side.{Side}
 use Rattle.cay_host.specs.declared.side.Side.TheVariants.{Queries, Events}
 use Rattle.cay_host.specs.Files.{Files}
 
--- its counts of faults, its sides, and what it tells of its content
+-- its counts of faults, how its last call came out, its sides, and what it tells of its content
 pub record Told : Type 0 where
   -- how often each call has failed; each count stays at 2^64-1 once it is there
   pub attach_faults : ℕ
   pub read_faults : ℕ
   pub write_faults : ℕ
+  -- the last call, where it failed
+  pub failed : Option Call
   -- whether a side is attached
   pub attached : Side → Bool
   -- the files by name, where they are told

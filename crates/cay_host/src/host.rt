@@ -1,5 +1,6 @@
 //! The calls by which a run reads its files and writes its output.
-ghost use Rattle.std.specs.Prelude.{◌≡◌, ◌<◌, true, false, length, IfOk, OnOk, OnErr};
+ghost use Rattle.std.specs.Prelude.{◌≡◌, ◌<◌, None, Some, true, false, length, IfOk, OnOk, OnErr};
+ghost use Rattle.cay_host.specs.declared.call.Call.TheVariants.{Attach, Read, Write};
 ghost use Rattle.cay_host.specs.Told.{Told, IsBounded};
 ghost use Rattle.cay_host.specs.Faults.{Rose};
 ghost use Rattle.cay_host.specs.Attaching.{Attaches, AttachFails, SameButSides};
@@ -22,7 +23,9 @@ pub trait Host {
         requires { (told self.old).attached side ≡ false }
         ensures ok { OnOk result (Attaches side name.now (told self.old) (told self.new)) }
         ensures quiet { OnOk result ((told self.new).attach_faults ≡ (told self.old).attach_faults) }
+        ensures none_failed { OnOk result ((told self.new).failed ≡ None) }
         ensures failed { OnErr result (AttachFails name.now (told self.old) (told self.new)) }
+        ensures last_failed { OnErr result ((told self.new).failed ≡ Some (Attach side)) }
         ensures same { SameButSides (told self.old) (told self.new) }
         ensures bounded { IsBounded (told self.new) };
 
@@ -34,8 +37,10 @@ pub trait Host {
         ensures took { let left = (told self.old).left side in
             IfOk result (λ n. Took n buf.new left ((told self.new).left side)) }
         ensures quiet { OnOk result ((told self.new).read_faults ≡ (told self.old).read_faults) }
+        ensures none_failed { OnOk result ((told self.new).failed ≡ None) }
         ensures kept { OnErr result ((told self.new).left ≡ (told self.old).left) }
         ensures cause { OnErr result (Rose (told self.old).read_faults (told self.new).read_faults) }
+        ensures last_failed { OnErr result ((told self.new).failed ≡ Some (Read side)) }
         ensures same { SameButRead side (told self.old) (told self.new) }
         ensures bounded { IsBounded (told self.new) };
 
@@ -44,8 +49,10 @@ pub trait Host {
         requires { 0 < length bytes.now }
         ensures wrote { IfOk result (λ n. WroteSome n bytes.now (told self.old) (told self.new)) }
         ensures quiet { OnOk result ((told self.new).write_faults ≡ (told self.old).write_faults) }
+        ensures none_failed { OnOk result ((told self.new).failed ≡ None) }
         ensures kept { OnErr result (KeepsOutput (told self.old) (told self.new)) }
         ensures cause { OnErr result (Rose (told self.old).write_faults (told self.new).write_faults) }
+        ensures last_failed { OnErr result ((told self.new).failed ≡ Some Write) }
         ensures same { SameButOutput (told self.old) (told self.new) }
         ensures bounded { IsBounded (told self.new) };
 }

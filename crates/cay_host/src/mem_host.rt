@@ -1,6 +1,7 @@
 //! A host in memory, which tells all its content.
-ghost use Rattle.std.specs.Prelude.{◌≡◌, ◌<◌, ◌≤◌, ◌-◌, ◌^◌, ◌++◌, ◌∷◌, [], ◌&&◌, not, nat_lt, length, Some, false, true, IfOk, OnOk, OnErr, is_ok, is_err, vec_capacity};
+ghost use Rattle.std.specs.Prelude.{◌≡◌, ◌<◌, ◌≤◌, ◌-◌, ◌^◌, ◌++◌, ◌∷◌, [], ◌&&◌, not, nat_lt, length, None, Some, false, true, IfOk, OnOk, OnErr, is_ok, is_err, vec_capacity};
 
+use crate::call::Call;
 use crate::files::{self, File, Place};
 use crate::host::{Failed, Host};
 use crate::side::Side;
@@ -22,6 +23,7 @@ pub struct MemHost {
     attach_faults: u64,
     read_faults: u64,
     write_faults: u64,
+    failed: Option<Call>,
     ghost pieces: { (0 < read_piece) × (0 < write_piece) },
     ghost reserved: { room ≤ vec_capacity written },
     ghost bounded: { (attach_faults ≤ 2 ^ 64 - 1) × (read_faults ≤ 2 ^ 64 - 1) × (write_faults ≤ 2 ^ 64 - 1) },
@@ -54,6 +56,7 @@ impl MemHost {
             attach_faults: 0,
             read_faults: 0,
             write_faults: 0,
+            failed: None,
         })
     }
 
@@ -102,18 +105,20 @@ impl MemHost {
         &self.written
     }
 
-    // Counts a call, and says whether it is one that fails.
+    // Counts a call, which hasn't failed yet, and says whether it is one that is to fail.
     fn count_call(&mut self) -> bool
         ensures listed { result ≡ is_listed (mem_setting self.old) }
-        ensures counted { self.new ≡ record self.old { calls = raised self.old.calls } }
+        ensures counted { self.new ≡ record self.old { calls = raised self.old.calls; failed = None } }
     {
         self.calls = self.calls.saturating_add(1);
+        self.failed = None;
         self.failing.contains(&self.calls)
     }
 }
 
 #[tactic(auto, unfolding(crate::specs::MemHost::mem_told, crate::specs::MemHost::mem_setting))]
 impl Host for MemHost {
+    ghost use Rattle.cay_host.specs.declared.call.Call.TheVariants.{Attach, Read, Write};
     ghost use Rattle.cay_host.specs.Attaching.{Attaches, AttachFails, SameButSides};
     ghost use Rattle.cay_host.specs.Faults.{Rose};
     ghost use Rattle.cay_host.specs.Files.{lacks};
@@ -130,7 +135,9 @@ impl Host for MemHost {
         requires { (mem_told self.old).attached side ≡ false }
         ensures ok { OnOk result (Attaches side name.now (mem_told self.old) (mem_told self.new)) }
         ensures quiet { OnOk result ((mem_told self.new).attach_faults ≡ (mem_told self.old).attach_faults) }
+        ensures none_failed { OnOk result ((mem_told self.new).failed ≡ None) }
         ensures failed { OnErr result (AttachFails name.now (mem_told self.old) (mem_told self.new)) }
+        ensures last_failed { OnErr result ((mem_told self.new).failed ≡ Some (Attach side)) }
         ensures same { SameButSides (mem_told self.old) (mem_told self.new) }
         ensures bounded { IsBounded (mem_told self.new) }
         ensures succeeds { let is_there = not (lacks name.now (mem_told self.old).files) in
@@ -141,9 +148,13 @@ impl Host for MemHost {
     {
         let is_listed = self.count_call();
         match files::find(&self.files, name.as_bytes()) {
-            None => Err(Failed),
+            None => {
+                self.failed = Some(Call::Attach(side));
+                Err(Failed)
+            }
             Some(file) => {
                 if is_listed {
+                    self.failed = Some(Call::Attach(side));
                     self.attach_faults = self.attach_faults.saturating_add(1);
                     return Err(Failed);
                 }
@@ -164,8 +175,10 @@ impl Host for MemHost {
         ensures took { let left = (mem_told self.old).left side in
             IfOk result (λ n. Took n buf.new left ((mem_told self.new).left side)) }
         ensures quiet { OnOk result ((mem_told self.new).read_faults ≡ (mem_told self.old).read_faults) }
+        ensures none_failed { OnOk result ((mem_told self.new).failed ≡ None) }
         ensures kept { OnErr result ((mem_told self.new).left ≡ (mem_told self.old).left) }
         ensures cause { OnErr result (Rose (mem_told self.old).read_faults (mem_told self.new).read_faults) }
+        ensures last_failed { OnErr result ((mem_told self.new).failed ≡ Some (Read side)) }
         ensures same { SameButRead side (mem_told self.old) (mem_told self.new) }
         ensures bounded { IsBounded (mem_told self.new) }
         ensures succeeds { is_ok result ≡ not (is_listed (mem_setting self.old)) }
@@ -176,6 +189,7 @@ impl Host for MemHost {
     {
         if self.count_call() {
             self.read_faults = self.read_faults.saturating_add(1);
+            self.failed = Some(Call::Read(side));
             return Err(Failed);
         }
         let piece = self.read_piece;
@@ -196,8 +210,10 @@ impl Host for MemHost {
         requires { 0 < length bytes.now }
         ensures wrote { IfOk result (λ n. WroteSome n bytes.now (mem_told self.old) (mem_told self.new)) }
         ensures quiet { OnOk result ((mem_told self.new).write_faults ≡ (mem_told self.old).write_faults) }
+        ensures none_failed { OnOk result ((mem_told self.new).failed ≡ None) }
         ensures kept { OnErr result (KeepsOutput (mem_told self.old) (mem_told self.new)) }
         ensures cause { OnErr result (Rose (mem_told self.old).write_faults (mem_told self.new).write_faults) }
+        ensures last_failed { OnErr result ((mem_told self.new).failed ≡ Some Write) }
         ensures same { SameButOutput (mem_told self.old) (mem_told self.new) }
         ensures bounded { IsBounded (mem_told self.new) }
         ensures succeeds { let has_room = nat_lt 0 (room_left (mem_setting self.old) (mem_told self.old)) in
@@ -211,6 +227,7 @@ impl Host for MemHost {
         let room = self.room.saturating_sub(self.written.len());
         if is_listed || room == 0 {
             self.write_faults = self.write_faults.saturating_add(1);
+            self.failed = Some(Call::Write);
             return Err(Failed);
         }
         let n = self.write_piece.min(room).min(bytes.len());

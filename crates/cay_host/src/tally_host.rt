@@ -1,7 +1,8 @@
 //! A host that counts the lines written to it, and keeps no bytes.
-ghost use Rattle.std.specs.Prelude.{◌≡◌, ◌<◌, ◌≤◌, ◌-◌, ◌^◌, Some, false, true, length, IfOk, OnOk, OnErr, is_ok, is_err};
+ghost use Rattle.std.specs.Prelude.{◌≡◌, ◌<◌, ◌≤◌, ◌-◌, ◌^◌, None, Some, false, true, length, IfOk, OnOk, OnErr, is_ok, is_err};
 ghost use Rattle.cay_host.specs.Output.{count_lf};
 
+use crate::call::Call;
 use crate::host::{Failed, Host};
 use crate::side::Side;
 use memchr::memchr_iter;
@@ -12,6 +13,7 @@ pub struct TallyHost {
     lines: u64,
     attach_faults: u64,
     read_faults: u64,
+    failed: Option<Call>,
     ghost bounded: { (attach_faults ≤ 2 ^ 64 - 1) × (read_faults ≤ 2 ^ 64 - 1) },
 }
 
@@ -27,6 +29,7 @@ impl TallyHost {
             lines: 0,
             attach_faults: 0,
             read_faults: 0,
+            failed: None,
         }
     }
 
@@ -40,6 +43,7 @@ impl TallyHost {
 
 #[tactic(auto, unfolding(crate::specs::TallyHost::tally_told))]
 impl Host for TallyHost {
+    ghost use Rattle.cay_host.specs.declared.call.Call.TheVariants.{Attach, Read};
     ghost use Rattle.cay_host.specs.Attaching.{Attaches, AttachFails, SameButSides};
     ghost use Rattle.cay_host.specs.Faults.{Rose, raised};
     ghost use Rattle.cay_host.specs.Input.{Took, SameButRead};
@@ -50,14 +54,16 @@ impl Host for TallyHost {
     ghost told = { tally_told };
 
     /// Fails always.
-    fn attach(&mut self, _side: Side, name: &str) -> Result<(), Failed>
+    fn attach(&mut self, side: Side, name: &str) -> Result<(), Failed>
         ensures failed { OnErr result (AttachFails name.now (tally_told self.old) (tally_told self.new)) }
+        ensures last_failed { OnErr result ((tally_told self.new).failed ≡ Some (Attach side)) }
         ensures same { SameButSides (tally_told self.old) (tally_told self.new) }
         ensures bounded { IsBounded (tally_told self.new) }
         ensures fails { is_err result ≡ true }
         ensures raised { (tally_told self.new).attach_faults ≡ raised (tally_told self.old).attach_faults }
     {
         self.attach_faults = self.attach_faults.saturating_add(1);
+        self.failed = Some(Call::Attach(side));
         Err(Failed)
     }
 
@@ -65,12 +71,14 @@ impl Host for TallyHost {
     fn read(&mut self, side: Side, _buf: &mut [u8]) -> Result<usize, Failed>
         ensures kept { OnErr result ((tally_told self.new).left ≡ (tally_told self.old).left) }
         ensures cause { OnErr result (Rose (tally_told self.old).read_faults (tally_told self.new).read_faults) }
+        ensures last_failed { OnErr result ((tally_told self.new).failed ≡ Some (Read side)) }
         ensures same { SameButRead side (tally_told self.old) (tally_told self.new) }
         ensures bounded { IsBounded (tally_told self.new) }
         ensures fails { is_err result ≡ true }
         ensures raised { (tally_told self.new).read_faults ≡ raised (tally_told self.old).read_faults }
     {
         self.read_faults = self.read_faults.saturating_add(1);
+        self.failed = Some(Call::Read(side));
         Err(Failed)
     }
 
@@ -79,6 +87,7 @@ impl Host for TallyHost {
         requires { 0 < length bytes.now }
         ensures wrote { IfOk result (λ n. WroteSome n bytes.now (tally_told self.old) (tally_told self.new)) }
         ensures quiet { OnOk result ((tally_told self.new).write_faults ≡ (tally_told self.old).write_faults) }
+        ensures none_failed { OnOk result ((tally_told self.new).failed ≡ None) }
         ensures same { SameButOutput (tally_told self.old) (tally_told self.new) }
         ensures bounded { IsBounded (tally_told self.new) }
         ensures whole { IfOk result (λ n. n ≡ length bytes.now) }
@@ -86,6 +95,7 @@ impl Host for TallyHost {
     {
         let lines = line_feeds(bytes) as u64;
         self.lines = self.lines.saturating_add(lines);
+        self.failed = None;
         Ok(bytes.len())
     }
 }

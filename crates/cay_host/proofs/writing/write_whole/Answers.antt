@@ -8,6 +8,7 @@ loop-at-init g c = record {
   wrote = Wrote-nil _;
   same = SameButOutput-refl _;
   quiet = refl;
+  none_failed = λ none. none;
   untouched = λ _. refl;
 }
 
@@ -20,5 +21,6 @@ loop-at-preserved g c =
       wrote = Wrote-next _ _ _ i.wrote e.wrote.wrote;
       same = SameButOutput-trans i.same e.same;
       quiet = e.quiet ∙ i.quiet;
+      none_failed = λ _. e.none_failed;
       untouched = λ none. absurd (omega (arith, ap length none));
     }
