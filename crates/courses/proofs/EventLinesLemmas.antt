@@ -8,6 +8,7 @@ use Rattle.std.proofs.lemmas.List.Elements.{All-head, All-tail}
 use Rattle.semantics.specs.Histories.{Event}
 use Rattle.semantics.specs.Report.{report}
 use Rattle.epoch_laws.specs.Standing.{closed_part, last_time}
+use Rattle.stream_schema.specs.Streams.{Entry}
 use Rattle.event_csv.specs.Control.{control_of, is_control}
 use Rattle.event_csv.specs.Event.{event, record_event}
 use Rattle.event_csv.specs.Fields.{line_fields}
@@ -18,7 +19,7 @@ use Rattle.event_csv.specs.declared.fault.LineFault.TheVariants as line
 use Rattle.courses.specs.declared.refusal.Refusal.{Refusal}
 use Rattle.courses.specs.ControlLines.{EntryFault, OfLine, control_entry, entry_of, event_entry}
 use Rattle.courses.specs.Course.{CourseEntry, Hears, Moment, after, events_in, start}
-use Rattle.courses.specs.EventLines.{Reading, before_last, closed, found_of, heard, heard_of, last_after, reading_of, readings, refused}
+use Rattle.courses.specs.EventLines.{Reading, before_last, closed, control_here, found_here, found_of, heard, heard_of, last_after, reading_here, reading_of, readings, readings_here, refused}
 use Rattle.courses.specs.EventLines as plain
 use Rattle.courses.specs.Heard.{disorder, entries_in, heard_from, is_before_last, refusal_of, refused_from, without_open}
 use Rattle.courses.specs.Laws.{HasNoControlLine, heard_alone}
@@ -138,3 +139,20 @@ texts_of_events set text ended none =
 -- so the report of such a text is that of the history that it closes
 pub report_alone : (set : QuerySet) (text : List ℕ) (ended : Bool) → HasNoControlLine text ended → report_of_closed set text ended ≡ report set.program (closed (readings set.streams text ended) ended)
 report_alone set text ended none = ap (course_report set) (texts_of_events set text ended none).2 ∙ alone set (closed (readings set.streams text ended) ended)
+
+-- a line that doesn't begin with > is read alike where no control line is taken
+found_alike : (streams : List Entry) (bytes : List ℕ) → is_control bytes ≡ false → found_here streams bytes ≡ found_of (event streams bytes)
+found_alike streams bytes plain_line = by_length (is_long bytes) refl
+  where
+    by_length : (b : Bool) → is_long bytes ≡ b
+        → cond b (Err (OfLine line.LineTooLong)) (cond (is_control bytes) (control_here bytes) (found_of (event streams bytes))) ≡ found_of (event streams bytes)
+    by_length true e = sym (ap (λ b. found_of (cond b (Err line.LineTooLong) (cond (is_utf8 bytes) (record_event streams (line_fields bytes)) (Err line.NotUtf8)))) e)
+    by_length false e = ap (λ b. cond b (control_here bytes) (found_of (event streams bytes))) plain_line
+
+-- and so are all, by induction on them
+read_alike : (streams : List Entry) (ls : List Line) → All IsPlainLine ls → map (reading_here streams) ls ≡ map (reading_of streams) ls
+read_alike streams [] all = refl
+read_alike streams (l ∷ ls) all = λ i. record { number = l.number; found = found_alike streams l.bytes (All-head IsPlainLine l ls all) i } ∷ read_alike streams ls (All-tail IsPlainLine l ls all) i
+
+pub texts_read_alike : (streams : List Entry) (text : List ℕ) (ended : Bool) → HasNoControlLine text ended → readings_here streams text ended ≡ readings streams text ended
+texts_read_alike streams text ended none = read_alike streams (lines text ended) none

@@ -3,11 +3,12 @@ use Rattle.std.specs.Prelude.{◌≡◌, ℕ, ◌<◌, Bool, false, List, [], �
 use Rattle.std.specs.List.{All}
 use Rattle.semantics.specs.Histories.{Event}
 use Rattle.semantics.specs.Report.{epoch, report}
+use Rattle.stream_schema.specs.Streams.{Entry}
 use Rattle.event_csv.specs.Control.{is_control}
 use Rattle.event_csv.specs.Lines.{lines}
 use Rattle.courses.specs.declared.refusal.Refusal.{Refusal}
 use Rattle.courses.specs.Course.{Course, Hears, events_in, set_after}
-use Rattle.courses.specs.EventLines.{closed, heard, readings, refused}
+use Rattle.courses.specs.EventLines.{closed, heard, readings, readings_here, refused}
 use Rattle.courses.specs.QuerySet.{QuerySet}
 use Rattle.courses.specs.Reports.{closed_in, course_report, heard_in, refused_in, report_of_closed}
 
@@ -49,3 +50,7 @@ EventLinesAreHeardAlone =
     (set : QuerySet) (text : List ℕ) (ended : Bool) → HasNoControlLine text ended
     → (refused_in set text ended ≡ refused (readings set.streams text ended)) × (heard_in set text ended ≡ heard_alone (heard (readings set.streams text ended)))
     × (closed_in set text ended ≡ heard_alone (closed (readings set.streams text ended) ended))
+
+-- over an event text without control lines each line is read alike, whether control lines are taken or not
+abbrev pub EventLinesAreReadAlike : Type 0
+EventLinesAreReadAlike = (streams : List Entry) (text : List ℕ) (ended : Bool) → HasNoControlLine text ended → readings_here streams text ended ≡ readings streams text ended

@@ -13,4 +13,6 @@ pub enum ControlFault {
     UnknownQuery { name: Text },
     /// Queries read the query of that name; the first of them in print order is the reader.
     InUse { name: Text, reader: Text },
+    /// The job takes no control lines.
+    NotHere,
 }

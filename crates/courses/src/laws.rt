@@ -1,5 +1,5 @@
 //! Laws of courses and of event texts with control lines.
-ghost use Rattle.courses.specs.Laws.{ControlEntriesAddNoLine, CourseReportGrowsByEpochs, EventLinesAreHeardAlone, EventsAloneAreAHistory, RefusedLinesStay, ReportsGrow};
+ghost use Rattle.courses.specs.Laws.{ControlEntriesAddNoLine, CourseReportGrowsByEpochs, EventLinesAreHeardAlone, EventLinesAreReadAlike, EventsAloneAreAHistory, RefusedLinesStay, ReportsGrow};
 
 /// A refused line stays refused, whatever bytes follow.
 pub fn refused_lines_stay()
@@ -29,4 +29,9 @@ pub fn control_entries_add_no_line()
 /// Over event texts without control lines the first refused line, what is heard and what is closed are those of event lines.
 pub fn event_lines_are_heard_alone()
     ensures { EventLinesAreHeardAlone }
+{}
+
+/// Over event texts without control lines the lines are read alike, whether control lines are taken or not.
+pub fn event_lines_are_read_alike()
+    ensures { EventLinesAreReadAlike }
 {}

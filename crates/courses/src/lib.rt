@@ -10,6 +10,6 @@ mod refusal;
 pub use fault::ControlFault;
 pub use laws::{
     control_entries_add_no_line, course_report_grows_by_epochs, event_lines_are_heard_alone,
-    events_alone_are_a_history, refused_lines_stay, reports_grow,
+    event_lines_are_read_alike, events_alone_are_a_history, refused_lines_stay, reports_grow,
 };
 pub use refusal::Refusal;

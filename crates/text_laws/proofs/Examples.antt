@@ -6,6 +6,7 @@ use Rattle.stream_schema.specs.Streams.{Entry}
 use Rattle.event_csv.specs.Event.{fields_event}
 use Rattle.event_csv.specs.declared.fault.LineFault.TheVariants as fault
 use Rattle.courses.specs.declared.refusal.Refusal.TheVariants.{IsOutOfOrder}
+use Rattle.courses.specs.ControlLines.{OfLine}
 use Rattle.courses.specs.EventLines.{Reading, closed}
 use Rattle.courses.specs.Heard.{disorder}
 
@@ -14,7 +15,7 @@ abbrev detected : ℕ → ℕ → Reading
 detected number time = record { number = number; found = Ok (record { stream = 0; tuple = record { vals = []; from = time; at = time } }) }
 
 abbrev faulty : ℕ → Reading
-faulty number = record { number = number; found = Err fault.UnknownStream }
+faulty number = record { number = number; found = Err (OfLine fault.UnknownStream) }
 
 -- a refused line closes nothing: where it stands behind the event of 2, the epoch of 1 is closed, and where it stands between the two, none is
 fault_at_the_end : times (closed (detected 1 1 ∷ detected 2 2 ∷ faulty 3 ∷ []) true) ≡ 1 ∷ []

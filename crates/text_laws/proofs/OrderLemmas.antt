@@ -7,14 +7,14 @@ use Rattle.std.proofs.lemmas.Bool.Decides.{nat_tests}
 use Rattle.std.proofs.lemmas.List.Elements.{All-cons, All-nil, All-weaker}
 use Rattle.semantics.specs.Histories.{Event}
 use Rattle.semantics.specs.Laws.{NeverFalls}
-use Rattle.event_csv.specs.declared.fault.LineFault.{LineFault}
 use Rattle.courses.specs.declared.refusal.Refusal.{Refusal}
 use Rattle.courses.specs.declared.refusal.Refusal.TheVariants.{IsOutOfOrder}
+use Rattle.courses.specs.ControlLines.{EntryFault, OfControl, OfLine}
 use Rattle.courses.specs.EventLines.{Reading, events_in, heard_from, last_after, refusal_of, refused_from}
 
 -- what was found on a line
 abbrev pub Found : Type 0
-Found = Result Event LineFault
+Found = Result Event EntryFault
 
 -- not before a time, if one was seen
 abbrev pub NotBefore : Option ℕ → ℕ → Type 0
@@ -43,7 +43,8 @@ not_below seen at le = grind (arith, nat_tests)
 
 -- one line that isn't refused, before lines that are in order
 one_in_order : (number : ℕ) (seen : Option ℕ) (found : Found) (rest : Option Refusal) (later : List Found) → option_or (refusal_of number seen found) rest ≡ None → (rest ≡ None → InOrder (last_after found) later) → InOrder seen (found ∷ later)
-one_in_order number seen (Err why) rest later e more = absurd (cc)
+one_in_order number seen (Err (OfLine why)) rest later e more = absurd (cc)
+one_in_order number seen (Err (OfControl why)) rest later e more = absurd (cc)
 one_in_order number None (Ok event) rest later e more = (tt, more e)
 one_in_order number (Some time) (Ok event) rest later e more = go (nat_lt event.tuple.at time) refl e
   where
