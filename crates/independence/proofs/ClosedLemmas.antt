@@ -1,22 +1,20 @@
 -- What is closed of courses with the same entries, and the programs at a time.
-use Rattle.std.proofs.Common.{◌≡◌, ◌∙◌, ℕ, ◌==◌, List, [], ◌∷◌, Bool, true, false, not, ◌&&◌, cond, refl, sym, ap, subst, append-nil}
+use Rattle.std.proofs.Common.{◌≡◌, ◌∙◌, ℕ, ◌==◌, [], ◌∷◌, Bool, true, false, not, ◌&&◌, cond, refl, sym, ap, subst, append-nil}
 use Rattle.std.specs.Prelude.{Option, is_none}
 use Rattle.std.specs.List.{AllZip, filter}
 use Rattle.semantics.specs.Programs.{Program}
-use Rattle.event_csv.specs.Lines.{Line}
-use Rattle.catalogue.specs.Judgement.{Judged}
 use Rattle.courses.specs.Course.{Adds, Course, CourseEntry, Drops, Hears, Moment, after, after_entry, events_in}
-use Rattle.courses.specs.Heard.{heard_from, is_before_last, is_seen, refused_from, without_open}
-use Rattle.courses.specs.QuerySet.{QuerySet}
+use Rattle.courses.specs.declared.refusal.Refusal.{Refusal}
+use Rattle.courses.specs.Heard.{is_before_last, is_seen, without_open}
 use Rattle.courses.specs.Reports.{program_at}
 use Rattle.courses.proofs.PartedLemmas.{goes_on_closed}
-use Rattle.courses.proofs.HeardLemmas.{heard_in_time}
+use Rattle.courses.proofs.MomentLemmas.{AreInTime}
 use Rattle.independence.specs.Courses.{AreOneEntry}
 use Rattle.independence.specs.Hearing.{AreTheSameEvents}
-use Rattle.independence.proofs.InsideLemmas.{IsInside}
-use Rattle.independence.proofs.CourseLemmas.{GoAlong, HearAlike, along-end, along-entries, along-front}
+use Rattle.independence.proofs.InsideLemmas.{Tables}
+use Rattle.independence.proofs.CourseLemmas.{GoAlong, along-end, along-entries, along-front}
 
-module _ (a b : Judged) (first : ℕ → ℕ) where
+module _ (a b : Tables) where
   -- two courses with the same entries
   abbrev AreOne : Course → Course → Type 0
   AreOne course other = AllZip (AreOneEntry a.streams b.streams) course other
@@ -72,44 +70,39 @@ module _ (a b : Judged) (first : ℕ → ℕ) where
       by-open true = filter-same m.seen course other same
       by-open false = same
 
-  module _ (m n : Moment) (lines : List Line) (heard : HearAlike a b first m n lines) where
-    abbrev mine : Course
-    mine = heard_from m lines
-
-    abbrev theirs : Course
-    theirs = heard_from n lines
-
+module _ (a b : Tables) (Along : Moment → Moment → Type 0) where
+  -- the same epoch is open at both moments, or none
+  module _ (seen-same : (m n : Moment) → Along m n → (m.seen ≡ n.seen) × (m.is_open ≡ n.is_open)) (m n : Moment) (mine theirs : Course) (along : GoAlong a b Along m n mine theirs) (timely : AreInTime m mine) (timely_too : AreInTime n theirs) where
     -- the closed part goes along
-    pub closed-along : GoAlong a b first m n (without_open (after m mine) mine) (without_open (after n theirs) theirs)
+    closed-along : GoAlong a b Along m n (without_open (after m mine) mine) (without_open (after n theirs) theirs)
     closed-along =
-        let on = (goes_on_closed m mine [] (heard_in_time lines m) tt).parts in
-        let on_too = (goes_on_closed n theirs [] (heard_in_time lines n) tt).parts in
-        let end = along-end a b first m n mine theirs heard.heard_are in
-        let same = open-same (after m mine) (after n theirs) mine theirs end.seen end.is_open (along-entries a b first m n mine theirs heard.heard_are) in
-        along-front a b first m n (without_open (after m mine) mine) (without_open (after n theirs) theirs) on.rest on_too.rest same
-        (subst (λ (p : Course × Course). GoAlong a b first m n p.0 p.1) (λ i. ((sym (append-nil mine) ∙ on.is) i, (sym (append-nil theirs) ∙ on_too.is) i)) heard.heard_are)
+        let on = (goes_on_closed m mine [] timely tt).parts in
+        let on_too = (goes_on_closed n theirs [] timely_too tt).parts in
+        let end = seen-same (after m mine) (after n theirs) (along-end a b Along m n mine theirs along) in
+        let same = open-same a b (after m mine) (after n theirs) mine theirs end.0 end.1 (along-entries a b Along m n mine theirs along) in
+        along-front a b Along m n (without_open (after m mine) mine) (without_open (after n theirs) theirs) on.rest on_too.rest same
+        (subst (λ (p : Course × Course). GoAlong a b Along m n p.0 p.1) (λ i. ((sym (append-nil mine) ∙ on.is) i, (sym (append-nil theirs) ∙ on_too.is) i)) along)
 
-    -- so does what a text closes that has ended or not
-    pub ended-along : (ended : Bool) → GoAlong a b first m n (cond (ended && is_none (refused_from m lines)) mine (without_open (after m mine) mine)) (cond (ended && is_none (refused_from n lines)) theirs (without_open (after n theirs) theirs))
-    ended-along ended =
-        subst (λ o. GoAlong a b first m n (cond (ended && is_none (refused_from m lines)) mine (without_open (after m mine) mine)) (cond (ended && is_none o) theirs (without_open (after n theirs) theirs)))
-        heard.refused_is (by-end (ended && is_none (refused_from m lines)))
+    -- so does what a text closes that has ended or not, where the same line is refused
+    pub ended-along : (ended : Bool) (o p : Option Refusal) → o ≡ p → GoAlong a b Along m n (cond (ended && is_none o) mine (without_open (after m mine) mine)) (cond (ended && is_none p) theirs (without_open (after n theirs) theirs))
+    ended-along ended o p same =
+        subst (λ p. GoAlong a b Along m n (cond (ended && is_none o) mine (without_open (after m mine) mine)) (cond (ended && is_none p) theirs (without_open (after n theirs) theirs))) same (by-end (ended && is_none o))
       where
-        by-end : (all : Bool) → GoAlong a b first m n (cond all mine (without_open (after m mine) mine)) (cond all theirs (without_open (after n theirs) theirs))
-        by-end true = heard.heard_are
+        by-end : (all : Bool) → GoAlong a b Along m n (cond all mine (without_open (after m mine) mine)) (cond all theirs (without_open (after n theirs) theirs))
+        by-end true = along
         by-end false = closed-along
 
-  -- the programs at a time are those of two sets, of which one is within the other
+  -- the programs at a time are those of two moments that are along each other
   pub record AreAtTime (program other : Program) : Type 0 where
-    pub set : QuerySet
-    pub twin : QuerySet
-    pub inside : IsInside a b first set twin
-    pub program_is : program ≡ set.program
-    pub other_is : other ≡ twin.program
+    pub moment : Moment
+    pub twin : Moment
+    pub along : Along moment twin
+    pub program_is : program ≡ moment.set.program
+    pub other_is : other ≡ twin.set.program
 
   -- by induction on the courses
-  pub at-time : (m n : Moment) (course other : Course) → GoAlong a b first m n course other → (time : ℕ) → AreAtTime (program_at m course time) (program_at n other time)
-  at-time m n [] [] along time = record { set = m.set; twin = n.set; inside = along.inside; program_is = refl; other_is = refl }
+  pub at-time : (m n : Moment) (course other : Course) → GoAlong a b Along m n course other → (time : ℕ) → AreAtTime (program_at m course time) (program_at n other time)
+  at-time m n [] [] along time = record { moment = m; twin = n; along = along; program_is = refl; other_is = refl }
   at-time m n [] (y ∷ other) along time = absurd along
   at-time m n (x ∷ course) [] along time = absurd along
   at-time m n (Hears event ∷ course) (Hears twin ∷ other) along time =
@@ -122,7 +115,7 @@ module _ (a b : Judged) (first : ℕ → ℕ) where
       q = after_entry n (Hears twin)
 
       by-test : (here : Bool) → AreAtTime (program_at p course time) (program_at q other time) → AreAtTime (cond here m.set.program (program_at p course time)) (cond here n.set.program (program_at q other time))
-      by-test true rest = record { set = m.set; twin = n.set; inside = along.0.inside; program_is = refl; other_is = refl }
+      by-test true rest = record { moment = m; twin = n; along = along.0; program_is = refl; other_is = refl }
       by-test false rest = rest
   at-time m n (Adds added ∷ course) (Adds twin ∷ other) along time = at-time (after_entry m (Adds added)) (after_entry n (Adds twin)) course other along.2 time
   at-time m n (Drops query ∷ course) (Drops twin ∷ other) along time = at-time (after_entry m (Drops query)) (after_entry n (Drops twin)) course other along.2 time

@@ -28,12 +28,12 @@ same_times streams others (event ∷ later) (other ∷ others_later) same =
     λ i. at i ∷ filter (λ time. not (time == at i)) (rest i)
 
 -- an image comes from a value
-image-of : {X Y : Type 0} (f : X → Y) (o : Option X) (y : Y) → option_map f o ≡ Some y → (x : X) × (o ≡ Some x) × (f x ≡ y)
+pub image-of : {X Y : Type 0} (f : X → Y) (o : Option X) (y : Y) → option_map f o ≡ Some y → (x : X) × (o ≡ Some x) × (f x ≡ y)
 image-of f None y e = cc
 image-of f (Some x) y e = (x, refl, cc)
 
 -- a stream that has the name has the number of the name
-named-number : (streams : List Entry) → AllPairs (λ x y. x ≢ y) (stream_names streams) → (name : List ℕ) (k n : ℕ) → slice_get (stream_names streams) k ≡ Some name → number_of name streams ≡ Some n → k ≡ n
+pub named-number : (streams : List Entry) → AllPairs (λ x y. x ≢ y) (stream_names streams) → (name : List ℕ) (k n : ℕ) → slice_get (stream_names streams) k ≡ Some name → number_of name streams ≡ Some n → k ≡ n
 named-number streams apart name k n at found =
     let (e, there, named) = image-of (λ (s : Entry). s.name) (slice_get streams k) name (sym (slice_get-map (λ (s : Entry). s.name) streams k) ∙ at) in
     let own : Some k ≡ Some n = sym (number-at streams apart k e there) ∙ ap (λ x. number_of x streams) named ∙ found in
@@ -48,13 +48,13 @@ number-named streams name other n found at =
     sym named ∙ same
 
 -- what the test of numbers tells
-equal : (m n : ℕ) → (m == n) ≡ true → m ≡ n
+pub equal : (m n : ℕ) → (m == n) ≡ true → m ≡ n
 equal m n e = grind (arith, nat_tests)
 
 unequal : (m n : ℕ) → (m == n) ≡ false → m ≢ n
 unequal m n e same = grind (arith, nat_tests)
 
-module _ (streams others : List Entry) (apart : AllPairs (λ x y. x ≢ y) (stream_names streams)) (apart_too : AllPairs (λ x y. x ≢ y) (stream_names others)) (name : List ℕ) (n m : ℕ) (found : number_of name streams ≡ Some n) (found_too : number_of name others ≡ Some m) where
+module _ (streams others : List Entry) (name : List ℕ) (n m : ℕ) (alone : (k : ℕ) → slice_get (stream_names streams) k ≡ Some name → k ≡ n) (alone_too : (k : ℕ) → slice_get (stream_names others) k ≡ Some name → k ≡ m) (found : number_of name streams ≡ Some n) (found_too : number_of name others ≡ Some m) where
   -- one event is on the stream of a name in both, or in neither
   same-test : (event other : Event) → AreOneEvent streams others event other → (event.stream == n) ≡ (other.stream == m)
   same-test event other one =
@@ -64,12 +64,12 @@ module _ (streams others : List Entry) (apart : AllPairs (λ x y. x ≢ y) (stre
           | inl also ↦ hit ∙ sym also
           | inr miss ↦
               let named : name ≡ one.streams_are.name = number-named streams name one.streams_are.name n found (ap (slice_get (stream_names streams)) (sym (equal event.stream n hit)) ∙ one.streams_are.first) in
-              absurd (unequal other.stream m miss (named-number others apart_too name other.stream m (one.streams_are.second ∙ ap Some (sym named)) found_too))
+              absurd (unequal other.stream m miss (alone_too other.stream (one.streams_are.second ∙ ap Some (sym named))))
         ]
         | inr miss ↦ elim (cases_Bool (other.stream == m)) [
           | inl hit ↦
               let named : name ≡ one.streams_are.name = number-named others name one.streams_are.name m found_too (ap (slice_get (stream_names others)) (sym (equal other.stream m hit)) ∙ one.streams_are.second) in
-              absurd (unequal event.stream n miss (named-number streams apart name event.stream n (one.streams_are.first ∙ ap Some (sym named)) found))
+              absurd (unequal event.stream n miss (alone event.stream (one.streams_are.first ∙ ap Some (sym named))))
           | inr neither ↦ miss ∙ sym neither
         ]
       ]
@@ -103,4 +103,4 @@ hear-same a b s t enlarges history others same query k d inside read =
         let stands = All-contains (Contains b.statements) a.statements (tree.Stream e.name is.columns) enlarges is.stands in
         let (m, schema, is_too, m_inside, there, found) = declared-number b t e.name is.columns stands in
         let own : number_of e.name a.streams ≡ Some k = number-at a.streams s.apart k e (declared-at a s k e at) in
-        ap (λ o. option_map_or (heard_on history) o []) own ∙ heard-same a.streams b.streams s.apart t.apart e.name k m own found history others same ∙ ap (λ o. option_map_or (heard_on others) o []) (sym found)
+        ap (λ o. option_map_or (heard_on history) o []) own ∙ heard-same a.streams b.streams e.name k m (λ n at_n. named-number a.streams s.apart e.name n k at_n own) (λ n at_n. named-number b.streams t.apart e.name n m at_n found) own found history others same ∙ ap (λ o. option_map_or (heard_on others) o []) (sym found)

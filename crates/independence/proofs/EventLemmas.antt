@@ -25,7 +25,7 @@ use Rattle.independence.proofs.AcceptedLemmas.{IsOfDeclaration, Stands, declarat
 use Rattle.independence.proofs.TableLemmas.{number-found}
 
 -- the declared stream of a name in both tables, with the same kinds, or in neither
-data AreFoundAlike (streams others : List Entry) : Option (ℕ × List Kind) → Option (ℕ × List Kind) → Type 0 where
+pub data AreFoundAlike (streams others : List Entry) : Option (ℕ × List Kind) → Option (ℕ × List Kind) → Type 0 where
   neither : AreFoundAlike streams others None None
   both : {m n : ℕ} {kinds : List Kind} → HaveOneName streams others m n → AreFoundAlike streams others (Some (m, kinds)) (Some (n, kinds))
 
@@ -67,7 +67,7 @@ module _ (streams others : List Entry) where
     by-bytes false true record_fields = record-alike record_fields
     by-bytes false false record_fields = refl
 
-    lines-alike : (line : List ℕ) → AreReadAlike streams others (event streams line) (event others line)
+    pub lines-alike : (line : List ℕ) → AreReadAlike streams others (event streams line) (event others line)
     lines-alike line = by-bytes (is_long line) (is_utf8 line) (line_fields line)
 
   module _ (taken : (name : List ℕ) → (declared_stream streams (number_of name streams) ≡ None) ⊎ AreFoundAlike streams others (declared_stream streams (number_of name streams)) (declared_stream others (number_of name others))) where
@@ -91,11 +91,11 @@ module _ (streams others : List Entry) where
     lines-taken line = bytes-taken (is_long line) (is_utf8 line) (line_fields line)
 
 -- the declared stream of a name, if there is one
-found-declared : (streams : List Entry) (n : ℕ) (e : Entry) → slice_get streams n ≡ Some e → e.declared ≡ true → declared_stream streams (Some n) ≡ Some (n, kinds_of e.schema)
+pub found-declared : (streams : List Entry) (n : ℕ) (e : Entry) → slice_get streams n ≡ Some e → e.declared ≡ true → declared_stream streams (Some n) ≡ Some (n, kinds_of e.schema)
 found-declared streams n e at is = ap (if_declared n) at ∙ ap (λ b. cond b (Some (n, kinds_of e.schema)) None) is
 
 -- a stream that a query publishes is no declared one
-found-other : (streams : List Entry) (n : ℕ) (e : Entry) → slice_get streams n ≡ Some e → e.declared ≡ false → declared_stream streams (Some n) ≡ None
+pub found-other : (streams : List Entry) (n : ℕ) (e : Entry) → slice_get streams n ≡ Some e → e.declared ≡ false → declared_stream streams (Some n) ≡ None
 found-other streams n e at is = ap (if_declared n) at ∙ ap (λ b. cond b (Some (n, kinds_of e.schema)) None) is
 
 -- a name is that of a declared stream, or of none

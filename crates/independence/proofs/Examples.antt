@@ -1,16 +1,18 @@
 -- Examples of what lines depend on, worked out by hand. No contract cites them.
-use Rattle.std.proofs.Common.{◌≡◌, refl, ℕ, true, false, List, [], ◌∷◌, arith}
+use Rattle.std.proofs.Common.{◌≡◌, refl, ℕ, zero, suc, ◌+◌, ◌-◌, true, false, List, [], ◌∷◌, map, arith}
 use Rattle.std.specs.Prelude.{Err, None, Ok, codes}
 use Rattle.event_types.specs.declared.kind.Kind.TheVariants as kind
 use Rattle.semantics.specs.Expressions.{Read}
 use Rattle.semantics.specs.Programs.{Query as ProgramQuery}
 use Rattle.stream_schema.specs.Streams.{Entry}
 use Rattle.cel_grammar.specs.Trees.{Statement, Stream, Query, Col, All, Name}
+use Rattle.catalogue.specs.Adding.{AddedQuery}
 use Rattle.courses.specs.ControlLines.{OfControl, dropped_entry, query_named}
 use Rattle.courses.specs.declared.fault.ControlFault.TheVariants as fault
-use Rattle.courses.specs.Course.{Drops, Hears}
-use Rattle.courses.specs.QuerySet.{QuerySet}
+use Rattle.courses.specs.Course.{Adds, Drops, Hears, set_after}
+use Rattle.courses.specs.QuerySet.{QuerySet, newcomer}
 use Rattle.independence.specs.Courses.{AreOneEntry}
+use Rattle.independence.specs.Renumbered.{DifferInNumbersAlone, StandAmong}
 use Rattle.independence.specs.ReadsFrom.{ReadsFrom, own, through}
 use Rattle.independence.proofs.WithinLemmas.{reads-among}
 
@@ -57,3 +59,44 @@ stream name = record { name = name; schema = []; declared = true }
 -- one event, where the streams stand in another order: its stream has the same name, and not the same number
 one_event : AreOneEntry (stream (codes "S") ∷ stream (codes "T") ∷ []) (stream (codes "T") ∷ stream (codes "S") ∷ []) (Hears (record { stream = 0; tuple = record { vals = []; from = 1; at = 1 } })) (Hears (record { stream = 1; tuple = record { vals = []; from = 1; at = 1 } }))
 one_event = record { streams_are = record { name = codes "S"; first = refl; second = refl }; tuples_are = refl }
+
+-- a set of one stream, and a query that is added to it
+abbrev base : QuerySet
+base = record { streams = stream (codes "S") ∷ []; program = record { declared = 1; queries = []; order = [] } }
+
+abbrev added : List ℕ → AddedQuery
+added name = record { statement = Query (All ∷ []) (Name (codes "S")) name; schema = []; expr = Read 0 }
+
+-- P comes; and X comes and leaves, and then P comes
+abbrev direct : QuerySet
+direct = set_after base (Adds (added (codes "P")) ∷ [])
+
+abbrev around : QuerySet
+around = set_after base (Adds (added (codes "X")) ∷ Drops (newcomer base (added (codes "X")) None) ∷ Adds (added (codes "P")) ∷ [])
+
+-- P's stream has the number 1 in the one set, and 2 in the other, where that of X is retired
+there_from_direct : StandAmong (λ n. n + n) direct.streams around.streams
+there_from_direct zero entry at there = at
+there_from_direct (suc zero) entry at there = at
+there_from_direct (suc (suc n)) entry at there = cc
+
+back_from_around : StandAmong (λ n. n - 1) around.streams direct.streams
+back_from_around zero entry at there = at
+back_from_around (suc zero) entry at there = absurd (there refl)
+back_from_around (suc (suc zero)) entry at there = at
+back_from_around (suc (suc (suc n))) entry at there = cc
+
+-- so the sets aren't equal, and differ in numbers alone
+differ_in_numbers : DifferInNumbersAlone direct around
+differ_in_numbers = record {
+  number = λ n. n + n;
+  number_back = λ n. n - 1;
+  there = record { streams_are = there_from_direct; queries_are = (record { names_are = refl; streams_are = refl; expressions_are = refl; births_are = refl }, tt) };
+  back = record { streams_are = back_from_around; queries_are = (record { names_are = refl; streams_are = refl; expressions_are = refl; births_are = refl }, tt) };
+}
+
+other_number : map (λ (q : ProgramQuery). q.stream) direct.program.queries ≡ 1 ∷ []
+other_number = refl
+
+other_number_around : map (λ (q : ProgramQuery). q.stream) around.program.queries ≡ 2 ∷ []
+other_number_around = refl

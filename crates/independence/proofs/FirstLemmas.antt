@@ -42,7 +42,7 @@ published-all (next {streams = streams} {s = s} {more = more} schema x there giv
 
 module _ (text : List ℕ) (judged : Judged) (accepts : Accepts text judged) where
   -- no statement has the name of a retired stream
-  own-statements : All OwnNames judged.statements
+  pub own-statements : All OwnNames judged.statements
   own-statements = reads-own text judged.statements _ accepts.file.reads
 
   known-streams : (n : ℕ) → n < length judged.streams → Contains (streams_there (program_of judged)) n

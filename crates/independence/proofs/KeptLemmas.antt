@@ -33,7 +33,7 @@ use Rattle.independence.proofs.OwnLemmas.{OwnNames}
 use Rattle.independence.proofs.PublishedLemmas.{contains-at, contains-filter}
 use Rattle.independence.proofs.RenamedLemmas.{AreApart, BeginWith, IsHidden, apart-hidden, apart-push, apart-retired, at-push, begin-retired, kinds-renamed, own-front, own-was, renamed-other}
 use Rattle.independence.proofs.TableLemmas.{get-append, get-end, number-found}
-use Rattle.independence.proofs.TurnLemmas.{streams_by, turn-alike, turn-behind, turn-push, turn-without}
+use Rattle.independence.proofs.TurnLemmas.{one-publisher, streams_by, turn-alike, turn-behind, turn-push, turn-without}
 use Rattle.independence.proofs.TypingLemmas.{queries-reads}
 
 -- a query's stream has its name, which is no retired stream's
@@ -93,6 +93,15 @@ module _ (declared streams : List Entry) (program : Program) (kept : IsKept decl
         absurd (omega (arith, before))
     | inr behind ↦ behind
   ]
+
+  -- queries of one name are one
+  pub one-named : (p q : Query) → Contains program.queries p → Contains program.queries q → p.name ≡ q.name → p ≡ q
+  one-named p q has has_too same =
+      let is = query-named p has in
+      let is_too = query-named q has_too in
+      one-publisher (kinds_in streams) (range_with_len 0 program.declared) program.order kept.typed.in_turn p q
+      (Contains-permutation program.queries program.order p kept.typed.same_queries has) (Contains-permutation program.queries program.order q kept.typed.same_queries has_too)
+      (kept.apart p.stream q.stream is.entry is_too.entry is.there is_too.there (is.name_is ∙ same ∙ sym is_too.name_is) (subst IsOwn (sym is.name_is) is.own))
 
   -- the same with more streams behind, over whose kinds the queries publish in turn
   turn-more : (more : List Entry) → PublishInTurn (kinds_in (streams ++ more)) (range_with_len 0 program.declared) program.order

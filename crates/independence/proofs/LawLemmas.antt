@@ -1,30 +1,24 @@
 -- Each query of a set, and each that a control line adds, has the same lines where queries are added.
-use Rattle.std.proofs.Common.{◌≡◌, ◌∙◌, ℕ, ◌-◌, ◌<◌, List, [], Bool, true, get_or, length, refl, sym, ap, subst, inl, inr}
-use Rattle.std.specs.Prelude.{Result, Ok, Some, slice_get, Contains, IsTrue}
-use Rattle.std.specs.List.{All, flat_map}
-use Rattle.std.proofs.lemmas.List.Elements.{All-contains, All-weaker, Contains-get_or}
+use Rattle.std.proofs.Common.{◌≡◌, ◌∙◌, ℕ, ◌-◌, ◌<◌, List, [], Bool, get_or, length, refl, sym, ap, subst, inl, inr}
+use Rattle.std.specs.Prelude.{Result, Ok, Some, slice_get, Contains}
+use Rattle.std.specs.List.{All}
+use Rattle.std.proofs.lemmas.List.Elements.{All-contains}
 use Rattle.std.proofs.lemmas.Option.{slice_get-get_or}
-use Rattle.semantics.specs.Expressions.{Ex, Read, Filter, Select, Union, Next, Fold}
 use Rattle.semantics.specs.Histories.{Event, heard_on}
-use Rattle.semantics.specs.Programs.{Program, Query}
-use Rattle.semantics.specs.Reading.{ReadsOnly, renumbered}
-use Rattle.semantics.specs.Report.{line}
-use Rattle.semantics.specs.Results.{results}
-use Rattle.semantics.specs.Statements.{Publishes}
-use Rattle.semantics.proofs.StatementLemmas.{same_results}
+use Rattle.semantics.specs.Programs.{Program}
 use Rattle.splitter.specs.Chains.{end_of}
 use Rattle.stream_schema.specs.Streams.{Entry, hidden_entries, number_of}
 use Rattle.cel_grammar.specs.Trees as tree
-use Rattle.cel_types.specs.SourceLaws.{kinds_in}
 use Rattle.event_csv.specs.declared.event.Seen.{Seen}
 use Rattle.event_csv.specs.declared.fault.LineFault.{LineFault}
 use Rattle.event_csv.specs.Event.{event}
 use Rattle.event_csv.specs.Lines.{lines}
 use Rattle.event_csv.proofs.UndeclaredFacts.{undeclared_change_no_event}
 use Rattle.catalogue.specs.Judgement.{Accepts, Judged, program_of}
-use Rattle.courses.specs.Course.{events_in, start}
-use Rattle.courses.specs.QuerySet.{QuerySet, set_of}
+use Rattle.courses.specs.Course.{Moment, events_in, start}
+use Rattle.courses.specs.QuerySet.{set_of}
 use Rattle.courses.specs.Reports.{closed_in, heard_in, refused_in}
+use Rattle.courses.proofs.HeardLemmas.{heard_in_time}
 use Rattle.independence.specs.Courses.{AddedQueriesChangeNoCourse, CourseAlike, HaveTwinsAt}
 use Rattle.independence.specs.Enlarging.{AddQueries, AreReadAlike, Enlarge}
 use Rattle.independence.specs.Hearing.{AreTheSameEvents}
@@ -32,28 +26,24 @@ use Rattle.independence.specs.Independence.{HasTwin}
 use Rattle.independence.specs.Reports.{AddedQueriesChangeNoReport}
 use Rattle.independence.proofs.AcceptedLemmas.{IsOfDeclaration, Stands, accepted-stands, declared-at, declared-number, entry_of}
 use Rattle.independence.proofs.AlongLemmas.{IsAlong, ReadAlike, TakeAlike}
-use Rattle.independence.proofs.InsideLemmas.{IsInside}
+use Rattle.independence.proofs.InsideLemmas.{Tables}
 use Rattle.independence.proofs.ClosedLemmas.{at-time, ended-along, same-events}
 use Rattle.independence.proofs.CourseLemmas.{AreFit, GoAlong, HearAlike, along-entries, hear-alike}
 use Rattle.independence.proofs.EnlargedLemmas.{lines_are_read_alike, lines_stay}
-use Rattle.independence.proofs.EnlargingLemmas.{heard-same, same_times}
+use Rattle.independence.proofs.EnlargingLemmas.{heard-same, named-number, same_times}
 use Rattle.independence.proofs.EventLemmas.{taken-alike}
 use Rattle.independence.proofs.FirstLemmas.{first, kept-first, within-first}
 use Rattle.independence.proofs.KeptLemmas.{kept-hidden}
 use Rattle.independence.proofs.PublishedLemmas.{contains-at}
 use Rattle.independence.proofs.RenamedLemmas.{hidden-all}
+use Rattle.independence.proofs.ResultLemmas.{twins-inside}
 use Rattle.independence.proofs.SharedLemmas.{number-in}
 use Rattle.independence.proofs.TableLemmas.{number-at}
-use Rattle.independence.proofs.TwinLemmas.{HasSame, within-hidden}
+use Rattle.independence.proofs.TwinLemmas.{within-hidden}
 
--- each stream that an expression reads is a stream
-reads-any : (x : Ex) → ReadsOnly (λ n. IsTrue true) x
-reads-any (Read n) = refl
-reads-any (Filter p x) = reads-any x
-reads-any (Select m x) = reads-any x
-reads-any (Union x y) = (reads-any x, reads-any y)
-reads-any (Next p x y) = (reads-any x, reads-any y)
-reads-any (Fold p q m x y) = (reads-any x, reads-any y)
+-- the tables of an accepted text
+abbrev told : Judged → Tables
+told judged = record { declared = judged.declared; streams = judged.streams }
 
 module _ (text other_text : List ℕ) (a b : Judged) (accepts : Accepts text a) (accepts_too : Accepts other_text b) (enlarges : Enlarge a.statements b.statements) where
   abbrev number : ℕ → ℕ
@@ -70,7 +60,7 @@ module _ (text other_text : List ℕ) (a b : Judged) (accepts : Accepts text a) 
   hidden judged = hidden_entries (length judged.streams) (end_of (program_of judged) - length judged.streams)
 
   -- at first the one set is within the other
-  pub along-start : IsAlong a b number (start (set_of a)) (start (set_of b))
+  pub along-start : IsAlong (told a) (told b) number (start (set_of a)) (start (set_of b))
   along-start =
       let kept = kept-first text a accepts in
       let kept_too = kept-first other_text b accepts_too in
@@ -94,12 +84,12 @@ module _ (text other_text : List ℕ) (a b : Judged) (accepts : Accepts text a) 
   by-declared-too bytes = ap (λ es. event es bytes) t.parts ∙ undeclared_change_no_event b.declared t.more bytes t.undeclared
 
   -- each event line is read alike over the declared streams, where none is declared beside
-  pub declared-alike : AddQueries a.statements b.statements → ReadAlike a b
+  pub declared-alike : AddQueries a.statements b.statements → ReadAlike (told a) (told b)
   declared-alike adds bytes =
       subst (λ (p : Result Seen LineFault × Result Seen LineFault). AreReadAlike a.streams b.streams p.0 p.1) (λ i. (by-declared bytes i, by-declared-too bytes i)) (lines_are_read_alike text other_text a b bytes accepts accepts_too adds)
 
   -- and each event over those of the first text is the same one over those of the second
-  pub declared-taken : TakeAlike a b
+  pub declared-taken : TakeAlike (told a) (told b)
   declared-taken bytes seen is = subst (AreReadAlike a.streams b.streams (Ok seen)) (by-declared-too bytes) (taken-alike a b s t enlarges bytes seen (by-declared bytes ∙ is))
 
   module _ (history others : List Event) (same : AreTheSameEvents a.streams b.streams history others) where
@@ -112,62 +102,45 @@ module _ (text other_text : List ℕ) (a b : Judged) (accepts : Accepts text a) 
         let stands = All-contains (Contains b.statements) a.statements (tree.Stream e.name is.columns) enlarges is.stands in
         let (m, schema, is_too, inside, there, found) = declared-number b t e.name is.columns stands in
         let own : number_of e.name a.streams ≡ Some n = number-at a.streams s.apart n e (declared-at a s n e at) in
-        heard-same a.streams b.streams s.apart t.apart e.name n m own found history others same
+        heard-same a.streams b.streams e.name n m (λ k at_k. named-number a.streams s.apart e.name k n at_k own) (λ k at_k. named-number b.streams t.apart e.name k m at_k found) own found history others same
         ∙ ap (heard_on others) (sym (number-in a.streams b.streams n m e (declared-at a s n e at) found))
 
-    -- a query of the one set has a twin with the same results in the other
-    twins-inside : (set other : QuerySet) → IsInside a b number set other → All (HasTwin set.program other.program history others) set.program.queries
-    twins-inside set other inside k d less =
-        let q : Query = get_or set.program.queries k d in
-        let has = All-contains (HasSame inside.number other.program) set.program.queries q inside.within.twins (Contains-get_or set.program.queries k d less) in
-        let all = same_results (λ n. true) inside.number (kinds_in set.streams) (kinds_in other.streams) set.program other.program history others inside.kept.typed inside.kept_too.typed (record {
-          declared = λ n shares low. (inside.within.low n low).0;
-          published =
-              All-weaker (HasSame inside.number other.program) (λ (p : Query). IsTrue true → ReadsOnly (λ n. IsTrue true) p.expr × Publishes other.program (inside.number p.stream) (renumbered inside.number p.expr) p.birth)
-              (λ p is shares. (reads-any p.expr, (is.twin, is.stands, sym is.stream, is.expr, is.birth))) set.program.queries inside.within.twins;
-        }) (λ n shares low. (
-        heard-alike n (subst (λ count. n < count) inside.kept.many low)
-        ∙ ap (heard_on others) (sym (inside.within.low n low).1))) in
-        let same_at : (time : ℕ) → results other.program others has.twin.stream time ≡ results set.program history q.stream time =
-        (λ time. ap (λ n. results other.program others n time) (sym has.stream) ∙ sym (all k d less refl time)) in
-        record {
-          twin = has.twin;
-          stands = has.stands;
-          same_name = has.named;
-          same_results = same_at;
-          same_lines = λ time i. flat_map (line (has.named i)) (same_at time i);
-        }
+  module _ (events : List ℕ) (ended : Bool) (fit : AreFit (told a) (told b) number (start (set_of a)) (start (set_of b)) (lines events ended)) where
+    abbrev Along : Moment → Moment → Type 0
+    Along = IsAlong (told a) (told b) number
 
-  module _ (events : List ℕ) (ended : Bool) (fit : AreFit a b number (start (set_of a)) (start (set_of b)) (lines events ended)) where
-    heard : HearAlike a b number (start (set_of a)) (start (set_of b)) (lines events ended)
-    heard = hear-alike a b number (lines events ended) (start (set_of a)) (start (set_of b)) along-start fit
+    heard : HearAlike (told a) (told b) Along (start (set_of a)) (start (set_of b)) (lines events ended)
+    heard = hear-alike (told a) (told b) number (lines events ended) (start (set_of a)) (start (set_of b)) along-start fit
 
-    closed-along : GoAlong a b number (start (set_of a)) (start (set_of b)) (closed_in (set_of a) events ended) (closed_in (set_of b) events ended)
-    closed-along = ended-along a b number (start (set_of a)) (start (set_of b)) (lines events ended) heard ended
+    closed-along : GoAlong (told a) (told b) Along (start (set_of a)) (start (set_of b)) (closed_in (set_of a) events ended) (closed_in (set_of b) events ended)
+    closed-along =
+        ended-along (told a) (told b) Along (λ m n along. (along.seen, along.is_open)) (start (set_of a)) (start (set_of b)) (heard_in (set_of a) events ended) (heard_in (set_of b) events ended) heard.heard_are
+        (heard_in_time (lines events ended) (start (set_of a))) (heard_in_time (lines events ended) (start (set_of b))) ended (refused_in (set_of a) events ended) (refused_in (set_of b) events ended) heard.refused_is
 
     pub refused-same : refused_in (set_of a) events ended ≡ refused_in (set_of b) events ended
     refused-same = heard.refused_is
 
     pub heard-events : AreTheSameEvents a.streams b.streams (events_in (heard_in (set_of a) events ended)) (events_in (heard_in (set_of b) events ended))
     heard-events =
-        same-events a b number (heard_in (set_of a) events ended) (heard_in (set_of b) events ended)
-        (along-entries a b number (start (set_of a)) (start (set_of b)) (heard_in (set_of a) events ended) (heard_in (set_of b) events ended) heard.heard_are)
+        same-events (told a) (told b) (heard_in (set_of a) events ended) (heard_in (set_of b) events ended)
+        (along-entries (told a) (told b) Along (start (set_of a)) (start (set_of b)) (heard_in (set_of a) events ended) (heard_in (set_of b) events ended) heard.heard_are)
 
     pub closed-events : AreTheSameEvents a.streams b.streams (events_in (closed_in (set_of a) events ended)) (events_in (closed_in (set_of b) events ended))
     closed-events =
-        same-events a b number (closed_in (set_of a) events ended) (closed_in (set_of b) events ended)
-        (along-entries a b number (start (set_of a)) (start (set_of b)) (closed_in (set_of a) events ended) (closed_in (set_of b) events ended) closed-along)
+        same-events (told a) (told b) (closed_in (set_of a) events ended) (closed_in (set_of b) events ended)
+        (along-entries (told a) (told b) Along (start (set_of a)) (start (set_of b)) (closed_in (set_of a) events ended) (closed_in (set_of b) events ended) closed-along)
 
     pub twins-at : (time : ℕ) → HaveTwinsAt a b (closed_in (set_of a) events ended) (closed_in (set_of b) events ended) time
     twins-at time =
-        let at = at-time a b number (start (set_of a)) (start (set_of b)) (closed_in (set_of a) events ended) (closed_in (set_of b) events ended) closed-along time in
+        let at = at-time (told a) (told b) Along (start (set_of a)) (start (set_of b)) (closed_in (set_of a) events ended) (closed_in (set_of b) events ended) closed-along time in
         subst (λ (p : Program × Program). All (HasTwin p.0 p.1 (events_in (closed_in (set_of a) events ended)) (events_in (closed_in (set_of b) events ended))) p.0.queries) (λ i. (sym at.program_is i, sym at.other_is i))
-        (twins-inside (events_in (closed_in (set_of a) events ended)) (events_in (closed_in (set_of b) events ended)) closed-events at.set at.twin at.inside)
+        (twins-inside (told a) (told b) number (events_in (closed_in (set_of a) events ended)) (events_in (closed_in (set_of b) events ended))
+        (heard-alike (events_in (closed_in (set_of a) events ended)) (events_in (closed_in (set_of b) events ended)) closed-events) at.moment.set at.twin.set at.along.inside)
 
     pub courses-same : CourseAlike a b events ended
     courses-same = record {
-      heard_are = along-entries a b number (start (set_of a)) (start (set_of b)) (heard_in (set_of a) events ended) (heard_in (set_of b) events ended) heard.heard_are;
-      closed_are = along-entries a b number (start (set_of a)) (start (set_of b)) (closed_in (set_of a) events ended) (closed_in (set_of b) events ended) closed-along;
+      heard_are = along-entries (told a) (told b) Along (start (set_of a)) (start (set_of b)) (heard_in (set_of a) events ended) (heard_in (set_of b) events ended) heard.heard_are;
+      closed_are = along-entries (told a) (told b) Along (start (set_of a)) (start (set_of b)) (closed_in (set_of a) events ended) (closed_in (set_of b) events ended) closed-along;
       epochs_are = same_times a.streams b.streams (events_in (closed_in (set_of a) events ended)) (events_in (closed_in (set_of b) events ended)) closed-events;
       lines_are = twins-at;
     }

@@ -1,5 +1,5 @@
 -- Queries that publish in turn, with one more and without one.
-use Rattle.std.proofs.Common.{◌≡◌, ◌≢◌, ◌∙◌, ℕ, ◌<◌, ◌==◌, List, [], ◌∷◌, ◌++◌, true, false, map, refl, sym, subst, inl, inr, append_assoc, append-nil, arith}
+use Rattle.std.proofs.Common.{◌≡◌, ◌≢◌, ◌∙◌, ℕ, zero, suc, ◌<◌, ◌==◌, List, [], ◌∷◌, ◌++◌, true, false, map, refl, sym, ap, subst, inl, inr, append_assoc, append-nil, arith}
 use Rattle.std.specs.Prelude.{Contains}
 use Rattle.std.specs.List.{All, filter}
 use Rattle.std.proofs.lemmas.Bool.{cases_eq}
@@ -97,3 +97,20 @@ module _ (stream : ℕ) where
     where
       rest : All (λ (q : Query). ReadsOnly (λ read. read ≢ stream) q.expr) order
       rest = All-tail (λ (q : Query). ReadsOnly (λ read. read ≢ stream) q.expr) query order unread
+
+-- a later query publishes a stream behind that of the first
+later : (kinds : ℕ → List Kind) (there : List ℕ) (query : Query) (order : List Query) → PublishInTurn kinds there (query ∷ order) → (q : Query) → Contains order q → query.stream < q.stream
+later kinds there query order turn q has =
+    All-contains (λ (p : Query). query.stream < p.stream) order q
+    (turn-behind kinds (there ++ query.stream ∷ []) order turn.3 query.stream (Contains-append_right there (query.stream ∷ []) query.stream (0, omega arith, refl))) has
+
+-- no two of them publish one stream, by induction on the queries
+pub one-publisher : (kinds : ℕ → List Kind) (there : List ℕ) (order : List Query) → PublishInTurn kinds there order → (p q : Query) → Contains order p → Contains order q → p.stream ≡ q.stream → p ≡ q
+one-publisher kinds there [] turn p q has has_too same = absurd (omega (arith, has.1))
+one-publisher kinds there (query ∷ order) turn p q (zero, inside, is) (zero, inside_too, is_too) same = sym is ∙ is_too
+one-publisher kinds there (query ∷ order) turn p q (zero, inside, is) (suc k, inside_too, is_too) same =
+    let behind = later kinds there query order turn q (k, omega (arith, inside_too), is_too) in let first : query.stream ≡ p.stream = ap (λ (x : Query). x.stream) is in absurd (omega (arith, behind, first, same))
+one-publisher kinds there (query ∷ order) turn p q (suc k, inside, is) (zero, inside_too, is_too) same =
+    let behind = later kinds there query order turn p (k, omega (arith, inside), is) in let first : query.stream ≡ q.stream = ap (λ (x : Query). x.stream) is_too in absurd (omega (arith, behind, first, same))
+one-publisher kinds there (query ∷ order) turn p q (suc k, inside, is) (suc l, inside_too, is_too) same =
+    one-publisher kinds (there ++ query.stream ∷ []) order turn.3 p q (k, omega (arith, inside), is) (l, omega (arith, inside_too), is_too) same

@@ -83,7 +83,7 @@ module _ (number first : ℕ → ℕ) (declared others_declared streams others :
   }
 
   -- what a name means in the first it means in the second
-  means-same : (a : List ℕ) (n : ℕ) (schema : List Attr) → IsOwn a → Has streams a n schema → Has others a (number n) schema
+  pub means-same : (a : List ℕ) (n : ℕ) (schema : List Attr) → IsOwn a → Has streams a n schema → Has others a (number n) schema
   means-same a n schema own has =
       let (e, at, named) = number-found a streams n has.found in
       let own_name : IsOwn e.name = subst IsOwn (sym named) own in

@@ -9,8 +9,10 @@ use Rattle.stream_schema.specs.Schema.{Attr}
 use Rattle.stream_schema.specs.Streams.{Entry, number_of, schemas_of}
 use Rattle.cel_grammar.specs.Trees.{Source, Statement}
 use Rattle.cel_grammar.specs.Trees as tree
-use Rattle.cel_types.specs.Sources.{Elaborates, name, filter, select, union, next, fold}
-use Rattle.cel_types.specs.Statements.{Queries, read_names}
+use Rattle.cel_types.specs.declared.fault.TypeFault.{TypeFault}
+use Rattle.cel_types.specs.Sources.{Elaborates, FailsToElaborate, name, filter, select, union, next, fold}
+use Rattle.cel_types.specs.Sources as fails
+use Rattle.cel_types.specs.Statements.{FailsAsQuery, Queries, read_names}
 use Rattle.catalogue.specs.Statements.{reads_by}
 use Rattle.independence.proofs.TableLemmas.{get-append, number-append, number-found}
 
@@ -27,26 +29,52 @@ IsAlike streams others number a = (n : ℕ) (schema : List Attr) → Has streams
 abbrev pub AreAlike : List Entry → List Entry → (ℕ → ℕ) → List (List ℕ) → Type 0
 AreAlike streams others number names = (a : List ℕ) → Contains names a → IsAlike streams others number a
 
+-- so of the names of a left source, and of a right one
+alike-left : {streams others : List Entry} (number : ℕ → ℕ) (e f : Source) → AreAlike streams others number (read_names e ++ read_names f) → AreAlike streams others number (read_names e)
+alike-left number e f alike a stands = alike a (Contains-append_left (read_names e) (read_names f) a stands)
+
+alike-right : {streams others : List Entry} (number : ℕ → ℕ) (e f : Source) → AreAlike streams others number (read_names e ++ read_names f) → AreAlike streams others number (read_names f)
+alike-right number e f alike a stands = alike a (Contains-append_right (read_names e) (read_names f) a stands)
+
 -- by induction on the derivation
 gives-renumbered : {streams others : List Entry} (number : ℕ → ℕ) {e : Source} {schema : List Attr} {x : Ex} → Elaborates streams e schema x → AreAlike streams others number (read_names e) → Elaborates others e schema (renumbered number x)
 gives-renumbered number (name {a = a} {n = n} {schema = schema} found there) alike =
     let has = alike a (0, omega arith, refl) n schema (record { found = found; there = there }) in name has.found has.there
 gives-renumbered number (filter g m) alike = filter (gives-renumbered number g alike) m
 gives-renumbered number (select g m narrow) alike = select (gives-renumbered number g alike) m narrow
-gives-renumbered number (union {e = e} {f = f} g h d) alike =
-    union (gives-renumbered number g (λ a stands. alike a (Contains-append_left (read_names e) (read_names f) a stands)))
-    (gives-renumbered number h (λ a stands. alike a (Contains-append_right (read_names e) (read_names f) a stands))) d
-gives-renumbered number (next {e = e} {f = f} g h narrow m) alike =
-    next (gives-renumbered number g (λ a stands. alike a (Contains-append_left (read_names e) (read_names f) a stands)))
-    (gives-renumbered number h (λ a stands. alike a (Contains-append_right (read_names e) (read_names f) a stands))) narrow m
-gives-renumbered number (fold {e = e} {f = f} g h m o sets) alike =
-    fold (gives-renumbered number g (λ a stands. alike a (Contains-append_left (read_names e) (read_names f) a stands)))
-    (gives-renumbered number h (λ a stands. alike a (Contains-append_right (read_names e) (read_names f) a stands))) m o sets
+gives-renumbered number (union {e = e} {f = f} g h d) alike = union (gives-renumbered number g (alike-left number e f alike)) (gives-renumbered number h (alike-right number e f alike)) d
+gives-renumbered number (next {e = e} {f = f} g h narrow m) alike = next (gives-renumbered number g (alike-left number e f alike)) (gives-renumbered number h (alike-right number e f alike)) narrow m
+gives-renumbered number (fold {e = e} {f = f} g h m o sets) alike = fold (gives-renumbered number g (alike-left number e f alike)) (gives-renumbered number h (alike-right number e f alike)) m o sets
 
 -- so of a query
 pub queries-renumbered : (streams others : List Entry) (number : ℕ → ℕ) (s : Statement) (schema : List Attr) (x : Ex) → Queries streams s schema x → AreAlike streams others number (reads_by s) → Queries others s schema (renumbered number x)
 queries-renumbered streams others number (tree.Stream a columns) schema x q alike = absurd q
 queries-renumbered streams others number (tree.Query items e a) schema x q alike = gives-renumbered number q alike
+
+-- a fault is one over the other table too, by induction on what it is
+fails-renumbered : {streams others : List Entry} (number : ℕ → ℕ) {e : Source} {f : TypeFault} → FailsToElaborate streams e f → AreAlike streams others number (read_names e) → FailsToElaborate others e f
+fails-renumbered number (fails.filter_source h) alike = fails.filter_source (fails-renumbered number h alike)
+fails-renumbered number (fails.filter_condition g h) alike = fails.filter_condition (gives-renumbered number g alike) h
+fails-renumbered number (fails.select_source h) alike = fails.select_source (fails-renumbered number h alike)
+fails-renumbered number (fails.select_items g h) alike = fails.select_items (gives-renumbered number g alike) h
+fails-renumbered number (fails.select_wide g h wide) alike = fails.select_wide (gives-renumbered number g alike) h wide
+fails-renumbered number (fails.union_left {e = e} {g = g} h) alike = fails.union_left (fails-renumbered number h (alike-left number e g alike))
+fails-renumbered number (fails.union_right {e = e} {g = g} l h) alike = fails.union_right (gives-renumbered number l (alike-left number e g alike)) (fails-renumbered number h (alike-right number e g alike))
+fails-renumbered number (fails.union_schemas {e = e} {g = g} l r d) alike = fails.union_schemas (gives-renumbered number l (alike-left number e g alike)) (gives-renumbered number r (alike-right number e g alike)) d
+fails-renumbered number (fails.next_left {e = e} {g = g} h) alike = fails.next_left (fails-renumbered number h (alike-left number e g alike))
+fails-renumbered number (fails.next_right {e = e} {g = g} l h) alike = fails.next_right (gives-renumbered number l (alike-left number e g alike)) (fails-renumbered number h (alike-right number e g alike))
+fails-renumbered number (fails.next_wide {e = e} {g = g} l r wide) alike = fails.next_wide (gives-renumbered number l (alike-left number e g alike)) (gives-renumbered number r (alike-right number e g alike)) wide
+fails-renumbered number (fails.next_condition {e = e} {g = g} l r narrow h) alike = fails.next_condition (gives-renumbered number l (alike-left number e g alike)) (gives-renumbered number r (alike-right number e g alike)) narrow h
+fails-renumbered number (fails.fold_left {e = e} {g = g} h) alike = fails.fold_left (fails-renumbered number h (alike-left number e g alike))
+fails-renumbered number (fails.fold_right {e = e} {g = g} l h) alike = fails.fold_right (gives-renumbered number l (alike-left number e g alike)) (fails-renumbered number h (alike-right number e g alike))
+fails-renumbered number (fails.fold_choose {e = e} {g = g} l r h) alike = fails.fold_choose (gives-renumbered number l (alike-left number e g alike)) (gives-renumbered number r (alike-right number e g alike)) h
+fails-renumbered number (fails.fold_on {e = e} {g = g} l r m h) alike = fails.fold_on (gives-renumbered number l (alike-left number e g alike)) (gives-renumbered number r (alike-right number e g alike)) m h
+fails-renumbered number (fails.fold_sets {e = e} {g = g} l r m o h) alike = fails.fold_sets (gives-renumbered number l (alike-left number e g alike)) (gives-renumbered number r (alike-right number e g alike)) m o h
+
+-- so of a query
+pub queries-fail : (streams others : List Entry) (number : ℕ → ℕ) (s : Statement) (f : TypeFault) → FailsAsQuery streams s f → AreAlike streams others number (reads_by s) → FailsAsQuery others s f
+queries-fail streams others number (tree.Stream a columns) f h alike = absurd h
+queries-fail streams others number (tree.Query items e a) f h alike = fails-renumbered number h alike
 
 -- the same numbers give the same expression
 renumbered-same : (x : Ex) → renumbered (λ n. n) x ≡ x

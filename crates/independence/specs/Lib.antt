@@ -4,3 +4,4 @@ pub mod Independence
 pub mod Enlarging
 pub mod Reports
 pub mod Courses
+pub mod Renumbered

@@ -2,6 +2,7 @@
 ghost use Rattle.independence.specs.Courses.{AddedQueriesChangeNoCourse};
 ghost use Rattle.independence.specs.Enlarging.{AddedQueriesChangeNoEvent, AddedQueriesChangeNoLine, SameEventsHaveSameTimes};
 ghost use Rattle.independence.specs.Independence.{ResultsDependOnReadsAlone};
+ghost use Rattle.independence.specs.Renumbered.{NumbersChangeNoReport};
 ghost use Rattle.independence.specs.Reports.{AddedQueriesChangeNoReport};
 
 /// No line of a query depends on a query that it doesn't read from. "Read from" is followed through
@@ -36,4 +37,12 @@ pub fn added_queries_change_no_report()
 /// refused with either.
 pub fn added_queries_change_no_course()
     ensures { AddedQueriesChangeNoCourse }
+{}
+
+/// Sets of queries that differ in the numbers of their streams alone, those of retired and hidden ones
+/// included, refuse the same line of an event text with the same fault, close the same entries and report
+/// the same, also behind courses of the same entries. A catalogue to which a query came and which it left
+/// numbers the next one otherwise than a catalogue that never had it.
+pub fn numbers_change_no_report()
+    ensures { NumbersChangeNoReport }
 {}
