@@ -105,8 +105,8 @@ module _ (c d : Catalogued) (standing : StandsInOrder c) (standing_then : Stands
     }
 
     -- the work may go on
-    pub come_at_work : IsLatest since c → new.born ≡ since → new.fronts ≡ old.fronts → IsAtWork d new
-    come_at_work latest born fronts = record {
+    pub come_at_work : IsLatest since c → new.born ≡ since → new.fronts ≡ old.fronts → new.rows ≡ old.rows → IsAtWork d new
+    come_at_work latest born fronts rows = record {
       in_order = standing_then;
       at_one = coming_stands.at_one added told c d old.engine new.engine standing standing_then at_work.at_one both;
       born = subst (λ time. IsLatest time d) (sym born)
@@ -114,6 +114,7 @@ module _ (c d : Catalogued) (standing : StandsInOrder c) (standing_then : Stands
           (All-append (λ (query : Query). IsUpTo query.birth since) (work_in c) (coming c added since ∷ []) latest
           (All-cons (λ (query : Query). IsUpTo query.birth since) (coming c added since) [] (up_to_same since) (All-nil (λ (query : Query). IsUpTo query.birth since)))));
       fronts = rw (come.streams, fronts) (streams_more c.streams old.fronts at_work.fronts _);
+      few = subst (λ (bytes : List ℕ). length bytes < 65536) (sym rows) at_work.few;
     }
 
   -- a query left
@@ -138,14 +139,15 @@ module _ (c d : Catalogued) (standing : StandsInOrder c) (standing_then : Stands
     }
 
     -- the work may go on
-    pub left_at_work : new.born ≡ old.born → AreFronts (retired c.streams (query_in c number).stream) new.fronts → IsAtWork d new
-    left_at_work born fronts = record {
+    pub left_at_work : new.born ≡ old.born → new.rows ≡ old.rows → AreFronts (retired c.streams (query_in c number).stream) new.fronts → IsAtWork d new
+    left_at_work born rows fronts = record {
       in_order = standing_then;
       at_one = leaving_stands.at_one number dropped c d old.engine new.engine standing standing_then at_work.at_one leaves;
       born = subst (λ time. IsLatest time d) (sym born)
           (subst (All (λ query. IsUpTo query.birth old.born)) (ap (λ (p : Program). p.order) (sym left.program))
           (All-filter (publishes_another (query_in c number).stream) (λ (query : Query). IsUpTo query.birth old.born) (work_in c) at_work.born));
       fronts = subst (λ streams. AreFronts streams new.fronts) (ap (λ (x : Catalogued). x.streams) (sym left.catalogue)) fronts;
+      few = subst (λ (bytes : List ℕ). length bytes < 65536) (sym rows) at_work.few;
     }
 
 -- the queries after an entry hang on the queries before it and on the time that was seen

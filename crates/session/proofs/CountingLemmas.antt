@@ -103,6 +103,7 @@ going_still c limit feed fed work now trims going = record {
     at_one = at_one_still c work.engine now trims.plan going.at_work.at_one;
     born = going.at_work.born;
     fronts = going.at_work.fronts;
+    few = going.at_work.few;
   };
   none_owed = going.none_owed;
   within = going.within;

@@ -10,10 +10,11 @@ use Rattle.semantics.specs.Laws.{IsBefore}
 use Rattle.semantics.specs.Programs.{Program}
 use Rattle.semantics.proofs.ListLemmas.{every}
 use Rattle.semantics.proofs.ReportLemmas.{filter_none, times-append, times_of_one}
-use Rattle.splitter.specs.Chains.{work_order}
+use Rattle.splitter.specs.Chains.{lines_of, work_order}
 use Rattle.birth_laws.specs.BornChains.{born_lines}
 use Rattle.epoch_laws.specs.BornLines.{lines_in}
 use Rattle.epoch_laws.specs.Histories.{events_before, streams_over}
+use Rattle.prefix_merge.specs.Listed.{states_of}
 use Rattle.epoch_engine.specs.Work.{end_tests, state_tests, waiting_over}
 use Rattle.event_csv.specs.Lines.{Line}
 use Rattle.courses.specs.ControlLines.{entry_of}
@@ -25,7 +26,7 @@ use Rattle.courses.specs.Reports.{program_at}
 use Rattle.courses.proofs.MomentLemmas.{after-append, events_in-append}
 use Rattle.courses.proofs.ReportLemmas.{program_later, program_stays}
 use Rattle.session.specs.Owes.{closes, open_time}
-use Rattle.session.specs.RunWork.{States, course_work, epoch_tests, tests_at}
+use Rattle.session.specs.RunWork.{course_work, epoch_tests, tests_at}
 use Rattle.session.specs.TestsLeft.{tests_left, tests_of}
 use Rattle.session.proofs.ClosingLemmas.{brought, brought_after, opened}
 use Rattle.session.proofs.PartsLemmas.{IsEarlier, IsOf, Parts, alone_are}
@@ -50,13 +51,13 @@ by_later time history later all =
     ∙ append-nil (upto time history)
 
 -- what an epoch asks for is unchanged by later events
-tests_stand : (states : States) (program : Program) (history later : List Event) (time : ℕ) → All (λ event. time < event.tuple.at) later → epoch_tests states program (history ++ later) time ≡ epoch_tests states program history time
-tests_stand states program history later time all =
+tests_stand : (program : Program) (history later : List Event) (time : ℕ) → All (λ event. time < event.tuple.at) later → epoch_tests program (history ++ later) time ≡ epoch_tests program history time
+tests_stand program history later time all =
     let lines = born_lines program in
     let order = work_order program in
     let by = by_later time history later all in
     let early = before_later time history later all in
-    λ i. sum_by (state_tests time (streams_over lines order (by i)) (waiting_over lines order (early i))) (states program) + sum_by (end_tests time (streams_over lines order (by i))) (lines_in lines)
+    λ i. sum_by (state_tests time (streams_over lines order (by i)) (waiting_over lines order (early i))) (states_of (lines_of program)) + sum_by (end_tests time (streams_over lines order (by i))) (lines_in lines)
 
 -- both at each item
 pub both_hold : {X : Type 0} (P Q R : X → Type 0) → ((x : X) → P x → Q x → R x) → (xs : List X) → All P xs → All Q xs → All R xs
@@ -94,80 +95,76 @@ plus_none n = omega arith
 plus_plus : (l m n : ℕ) → (l + m) + n ≡ l + (m + n)
 plus_plus l m n = omega arith
 
-module _ (states : States) (set : QuerySet) (course more : Course) (before : IsBefore (events_in course) (events_in more)) where
+module _ (set : QuerySet) (course more : Course) (before : IsBefore (events_in course) (events_in more)) where
   abbrev whole : ℕ → ℕ
-  whole = tests_at states set (course ++ more)
+  whole = tests_at set (course ++ more)
 
   -- the epochs of the course so far ask for the same
-  epochs_stay : All (λ time. whole time ≡ tests_at states set course time) (times (events_in course))
+  epochs_stay : All (λ time. whole time ≡ tests_at set course time) (times (events_in course))
   epochs_stay =
-      both_hold (λ time. program_at (start set) (course ++ more) time ≡ program_at (start set) course time) (λ time. All (λ late. time < late.tuple.at) (events_in more)) (λ time. whole time ≡ tests_at states set course time)
-      (λ time same late. (λ i. epoch_tests states (same i) (events_in-append course more i) time) ∙ tests_stand states (program_at (start set) course time) (events_in course) (events_in more) time late)
+      both_hold (λ time. program_at (start set) (course ++ more) time ≡ program_at (start set) course time) (λ time. All (λ late. time < late.tuple.at) (events_in more)) (λ time. whole time ≡ tests_at set course time)
+      (λ time same late. (λ i. epoch_tests (same i) (events_in-append course more i) time) ∙ tests_stand (program_at (start set) course time) (events_in course) (events_in more) time late)
       (times (events_in course)) (program_stays (start set) course more) (times_hold (λ time. All (λ late. time < late.tuple.at) (events_in more)) (events_in course) before)
 
   -- later events add what their epochs ask for
-  work_grows : course_work states set (course ++ more) ≡ course_work states set course + sum_by whole (times (events_in more))
+  work_grows : course_work set (course ++ more) ≡ course_work set course + sum_by whole (times (events_in more))
   work_grows =
       ap (λ events. sum_by whole (times events)) (events_in-append course more)
       ∙ ap (sum_by whole) (times-append (events_in course) (events_in more) before)
       ∙ sum_by-append whole (times (events_in course)) (times (events_in more))
-      ∙ ap (λ n. n + sum_by whole (times (events_in more))) (sum_same whole (tests_at states set course) (times (events_in course)) epochs_stay)
+      ∙ ap (λ n. n + sum_by whole (times (events_in more))) (sum_same whole (tests_at set course) (times (events_in course)) epochs_stay)
 
-module _ (states : States) where
-  abbrev run : QuerySet → Course → ℕ
-  run = course_work states
+-- entries that are no events add nothing
+control_adds_none : (set : QuerySet) (course entries : Course) → events_in entries ≡ [] → course_work set (course ++ entries) ≡ course_work set course
+control_adds_none set course entries none =
+    work_grows set course entries (every (λ event. All (λ late. event.tuple.at < late.tuple.at) (events_in entries)) (λ event. none_late event (events_in entries) none) (events_in course))
+    ∙ ap (λ events. course_work set course + sum_by (tests_at set (course ++ entries)) (times events)) none ∙ plus_none (course_work set course)
+  where
+    none_late : (event : Event) (events : List Event) → events ≡ [] → All (λ late. event.tuple.at < late.tuple.at) events
+    none_late event [] e = All-nil (λ (late : Event). event.tuple.at < late.tuple.at)
+    none_late event (late ∷ events) e = cc
 
-  -- entries that are no events add nothing
-  control_adds_none : (set : QuerySet) (course entries : Course) → events_in entries ≡ [] → run set (course ++ entries) ≡ run set course
-  control_adds_none set course entries none =
-      work_grows states set course entries (every (λ event. All (λ late. event.tuple.at < late.tuple.at) (events_in entries)) (λ event. none_late event (events_in entries) none) (events_in course))
-      ∙ ap (λ events. run set course + sum_by (tests_at states set (course ++ entries)) (times events)) none ∙ plus_none (run set course)
-    where
-      none_late : (event : Event) (events : List Event) → events ≡ [] → All (λ late. event.tuple.at < late.tuple.at) events
-      none_late event [] e = All-nil (λ (late : Event). event.tuple.at < late.tuple.at)
-      none_late event (late ∷ events) e = cc
+-- events of one later time add what their epoch asks for
+law : (set : QuerySet) (before : Course) (now : List Event) (time : ℕ) → All (IsEarlier time) (events_in before) → All (IsOf time) now → 0 < length now
+    → course_work set (before ++ heard_alone now) ≡ course_work set before + epoch_tests (set_after set before).program (events_in before ++ now) time
+law set before [] time early same some = absurd (omega (arith, some))
+law set before (event ∷ events) time early same some =
+    let next = heard_alone (event ∷ events) in
+    let late = λ (first : Event). All (λ (last : Event). first.tuple.at < last.tuple.at) (events_in next) in
+    let are = alone_are (event ∷ events) in
+    let is_before : IsBefore (events_in before) (events_in next) =
+    All-weaker (IsEarlier time) late
+    (λ first less. subst (λ es. All (λ (last : Event). first.tuple.at < last.tuple.at) es) (sym are)
+    (All-weaker (IsOf time) (λ last. first.tuple.at < last.tuple.at) (λ last is. omega (arith, less, is)) (event ∷ events) same)) (events_in before) early in
+    work_grows set before next is_before
+    ∙ ap (λ es. course_work set before + sum_by (tests_at set (before ++ next)) (times es)) are
+    ∙ ap (λ ts. course_work set before + sum_by (tests_at set (before ++ next)) ts) (times_of_one time event events same)
+    ∙ ap (λ n. course_work set before + n) (one (tests_at set (before ++ next)) time)
+    ∙ (λ i. course_work set before + epoch_tests ((program_later (start set) before next time early ∙ program_alone (after (start set) before) (event ∷ events) time) i) ((events_in-append before next ∙ ap (λ es. events_in before ++ es) are) i) time)
+  where
+    one : (f : ℕ → ℕ) (x : ℕ) → sum_by f (x ∷ []) ≡ f x
+    one f x = omega arith
 
-  -- events of one later time add what their epoch asks for
-  law : (set : QuerySet) (before : Course) (now : List Event) (time : ℕ) → All (IsEarlier time) (events_in before) → All (IsOf time) now → 0 < length now
-      → run set (before ++ heard_alone now) ≡ run set before + epoch_tests states (set_after set before).program (events_in before ++ now) time
-  law set before [] time early same some = absurd (omega (arith, some))
-  law set before (event ∷ events) time early same some =
-      let next = heard_alone (event ∷ events) in
-      let late = λ (first : Event). All (λ (last : Event). first.tuple.at < last.tuple.at) (events_in next) in
-      let are = alone_are (event ∷ events) in
-      let is_before : IsBefore (events_in before) (events_in next) =
-      All-weaker (IsEarlier time) late
-      (λ first less. subst (λ es. All (λ (last : Event). first.tuple.at < last.tuple.at) es) (sym are)
-      (All-weaker (IsOf time) (λ last. first.tuple.at < last.tuple.at) (λ last is. omega (arith, less, is)) (event ∷ events) same)) (events_in before) early in
-      work_grows states set before next is_before
-      ∙ ap (λ es. run set before + sum_by (tests_at states set (before ++ next)) (times es)) are
-      ∙ ap (λ ts. run set before + sum_by (tests_at states set (before ++ next)) ts) (times_of_one time event events same)
-      ∙ ap (λ n. run set before + n) (one (tests_at states set (before ++ next)) time)
-      ∙ (λ i. run set before + epoch_tests states ((program_later (start set) before next time early ∙ program_alone (after (start set) before) (event ∷ events) time) i) ((events_in-append before next ∙ ap (λ es. events_in before ++ es) are) i) time)
-    where
-      one : (f : ℕ → ℕ) (x : ℕ) → sum_by f (x ∷ []) ≡ f x
-      one f x = omega arith
+module _ (set : QuerySet) (ended : Bool) where
+  abbrev tests_brought : Moment → List Line → List Event → ℕ
+  tests_brought = brought 0 (λ m n. m + n) epoch_tests ended
 
-  module _ (set : QuerySet) (ended : Bool) where
-    abbrev tests_brought : Moment → List Line → List Event → ℕ
-    tests_brought = brought 0 (λ m n. m + n) (epoch_tests states) ended
+  open_tests_are : (program : Program) (history : List Event) (time : Option ℕ) → tests_of program history time ≡ opened 0 (λ m n. m + n) epoch_tests ended program history time
+  open_tests_are program history None = refl
+  open_tests_are program history (Some time) = refl
 
-    open_tests_are : (program : Program) (history : List Event) (time : Option ℕ) → tests_of states program history time ≡ opened 0 (λ m n. m + n) (epoch_tests states) ended program history time
-    open_tests_are program history None = refl
-    open_tests_are program history (Some time) = refl
+  -- the tests that are to come, epoch by epoch, by induction on the lines
+  tests_are_brought : (m : Moment) (lines : List Line) (history : List Event) → tests_left m ended lines history ≡ tests_brought m lines history
+  tests_are_brought m [] history = ap (λ many. cond ended many 0) (open_tests_are m.set.program history (open_time m))
+  tests_are_brought m (line ∷ lines) history =
+      λ i. cond (is_some (refusal_at m line)) 0
+      (cond (closes m (entry_of m.set line.bytes)) (open_tests_are m.set.program history (open_time m) i) 0 + tests_are_brought (after_line m line) lines (history ++ events_in (entries_in (entry_of m.set line.bytes))) i)
 
-    -- the tests that are to come, epoch by epoch, by induction on the lines
-    tests_are_brought : (m : Moment) (lines : List Line) (history : List Event) → tests_left states m ended lines history ≡ tests_brought m lines history
-    tests_are_brought m [] history = ap (λ many. cond ended many 0) (open_tests_are m.set.program history (open_time m))
-    tests_are_brought m (line ∷ lines) history =
-        λ i. cond (is_some (refusal_at m line)) 0
-        (cond (closes m (entry_of m.set line.bytes)) (open_tests_are m.set.program history (open_time m) i) 0 + tests_are_brought (after_line m line) lines (history ++ events_in (entries_in (entry_of m.set line.bytes))) i)
-
-    -- what the closed epochs of a course ask for, and the tests that come after it, are what the epochs ask for that are closed then
-    pub tests_left_after : (lines : List Line) (past : Course) → Parts set past (after (start set) past)
-        → run set (without_open (after (start set) past) past) + tests_left states (after (start set) past) ended lines (events_in past) ≡ run set (closed_after set past lines ended)
-    tests_left_after lines past parts =
-        let m = after (start set) past in
-        ap (λ many. run set (without_open m past) + many) (tests_are_brought m lines (events_in past))
-        ∙ brought_after 0 (λ m n. m + n) plus_none plus_plus run (epoch_tests states) law control_adds_none ended set lines past m refl parts
-        ∙ ap (λ n. run set (cond (ended && is_none (refused_from m lines)) (past ++ heard_from m lines) (without_open n (past ++ heard_from m lines)))) (sym (after-append (start set) past (heard_from m lines)))
+  -- what the closed epochs of a course ask for, and the tests that come after it, are what the epochs ask for that are closed then
+  pub tests_left_after : (lines : List Line) (past : Course) → Parts set past (after (start set) past)
+      → course_work set (without_open (after (start set) past) past) + tests_left (after (start set) past) ended lines (events_in past) ≡ course_work set (closed_after set past lines ended)
+  tests_left_after lines past parts =
+      let m = after (start set) past in
+      ap (λ many. course_work set (without_open m past) + many) (tests_are_brought m lines (events_in past))
+      ∙ brought_after 0 (λ m n. m + n) plus_none plus_plus course_work epoch_tests law control_adds_none ended set lines past m refl parts
+      ∙ ap (λ n. course_work set (cond (ended && is_none (refused_from m lines)) (past ++ heard_from m lines) (without_open n (past ++ heard_from m lines)))) (sym (after-append (start set) past (heard_from m lines)))

@@ -1,5 +1,5 @@
 -- The events that the work stands for, before and after one more.
-use Rattle.std.proofs.Common.{◌≡◌, ◌∙◌, sym, refl, ap, subst, ℕ, ◌<◌, ◌≤◌, true, is_some, List, [], ◌∷◌, ◌++◌, Option, Some, None, arith}
+use Rattle.std.proofs.Common.{◌≡◌, ◌∙◌, sym, refl, ap, subst, ℕ, ◌<◌, ◌≤◌, true, is_some, List, [], ◌∷◌, ◌++◌, length, Option, Some, None, arith}
 use Rattle.std.specs.Option.{option_or}
 use Rattle.std.proofs.lemmas.List.Elements.{All-nil, All-cons, All-append}
 use Rattle.event_types.specs.Tuple.{IsSound}
@@ -67,14 +67,15 @@ module _ (c : Catalogued) (standing : StandsInOrder c) (event : Seen) (fits : Fi
 
   module _ (new : Work) (took : new.engine ≡ with_tuple mid event.stream event.tuple) where
     -- once it took the event, the work may go on
-    pub at_work_more : IsLatest new.born c → AreFronts c.streams new.fronts → IsAtWork c new
-    at_work_more born fronts =
+    pub at_work_more : IsLatest new.born c → AreFronts c.streams new.fronts → length new.rows < 65536 → IsAtWork c new
+    at_work_more born fronts few =
         let still = at_one_still c old mid ready.plan at_one in
         record {
           in_order = standing;
           at_one = subst (AreAtOne c) (sym took) (record { merged = still.merged; endings = still.endings; layout = still.layout });
           born = born;
           fronts = fronts;
+          few = few;
         }
 
     -- and it stands for one more event

@@ -1,5 +1,7 @@
 -- What a session makes of more bytes of its event text, and of the end of the text.
-use Rattle.std.specs.Prelude.{◌≡◌, ◌<◌, ⊤, ℕ, Bool, false, true, List, ◌++◌, length, take, Some, None, Result, Ok, Err}
+use Rattle.std.specs.Prelude.{◌≡◌, ◌<◌, ⊤, ℕ, Bool, false, true, List, ◌++◌, length, take, Option, Some, None, Result, Ok, Err}
+use Rattle.cay_host.specs.declared.call.Call.{Call}
+use Rattle.cay_host.specs.declared.call.Call.TheVariants.{Write}
 use Rattle.cay_host.specs.Faults.{Rose}
 use Rattle.cay_host.specs.Output.{Wrote, WrotePart}
 use Rattle.cay_host.specs.Told.{Told}
@@ -54,6 +56,16 @@ HearsEnd old new before after result = (set : QuerySet) (past : Course) (text : 
 abbrev pub BlamesWriting : Result (Unit {0}) SessionFault → Told → Told → Type 0
 BlamesWriting (Err WriteFault) before after = ⊤
 BlamesWriting other before after = after.write_faults ≡ before.write_faults
+
+-- the write that a fault tells as failed
+abbrev pub failed_write : SessionFault → Option Call
+failed_write WriteFault = Some Write
+failed_write other = None
+
+-- that of an answer: none, where all was done
+abbrev pub failed_in : {T : Type 0} → Result T SessionFault → Option Call
+failed_in (Ok done) = None
+failed_in (Err fault) = failed_write fault
 
 -- why a session stopped at a piece, whatever course and event text it stood for
 abbrev pub BreaksAtPiece : SessionView → List ℕ → Told → Told → SessionFault → Type 0

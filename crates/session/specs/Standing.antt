@@ -1,5 +1,5 @@
 -- The events that the work stands for, and what holds of the work whatever was heard. No public clause cites this module.
-use Rattle.std.specs.Prelude.{◌≡◌, ◌≤◌, ℕ, is_some, List, [], Option, None}
+use Rattle.std.specs.Prelude.{◌≡◌, ◌<◌, ◌≤◌, ℕ, is_some, List, [], length, Option, None}
 use Rattle.std.specs.Option.{option_or}
 use Rattle.semantics.specs.Histories.{Event}
 use Rattle.semantics.specs.Programs.{Program}
@@ -42,12 +42,13 @@ pub record StandsFor (c : Catalogued) (history : List Event) (now : engine.Engin
   pub declared : AreDeclared c history
   pub engine : engines.EngineStandsFor now (lines_over c) history
 
--- the queries stand in order, the engine and the catalogue are at one, no query was born after the time that is kept, and the fronts that are made are those of the streams
+-- the queries stand in order, the engine and the catalogue are at one, no query was born after the time that is kept, the fronts that are made are those of the streams, and fewer than 65,536 bytes of rows wait to be written
 pub record IsAtWork (c : Catalogued) (work : Work) : Type 0 where
   pub in_order : StandsInOrder c
   pub at_one : AreAtOne c work.engine
   pub born : IsLatest work.born c
   pub fronts : AreFronts c.streams work.fronts
+  pub few : length work.rows < 65536
 
 -- the open epoch was closed, and the engine stands for the same events
 pub record HasClosed (c : Catalogued) (old new : engine.EngineView) : Type 0 where

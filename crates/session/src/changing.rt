@@ -1,5 +1,6 @@
 //! The work on control lines that change the queries.
-ghost use Rattle.std.specs.Prelude.{◌≡◌, ℕ, ◌<◌, None, IfErr, OnOk, false, length};
+ghost use Rattle.std.specs.Prelude.{◌≡◌, ◌↔◌, ℕ, ◌<◌, None, IfErr, OnOk, false, length};
+ghost use Rattle.cay_host.specs.Calls.{FailedLast};
 ghost use Rattle.cay_host.specs.Output.{SameButOutput};
 ghost use Rattle.catalogue.specs.Catalogued.{query_in};
 ghost use Rattle.catalogue.specs.Leaving.{IsUnread};
@@ -7,7 +8,7 @@ ghost use Rattle.catalogue.specs.Standing.{IsUpTo};
 ghost use Rattle.catalogue.specs.Taking.{IsFit, added_of};
 ghost use Rattle.courses.specs.Course.{Adds, Drops};
 ghost use Rattle.session.specs.Changes.{HasChanged};
-ghost use Rattle.session.specs.Feeds.{BlamesWriting};
+ghost use Rattle.session.specs.Feeds.{BlamesWriting, failed_in};
 ghost use Rattle.session.specs.ForEachHistory.{StopsAtEntry, TakesEntry};
 ghost use Rattle.session.specs.Says.{MayBeMade, entry_by};
 ghost use Rattle.session.specs.Standing.{IsAtWork};
@@ -40,6 +41,7 @@ pub fn work_on_change<H: Host, L: Ledger>(
     ensures at_work { OnOk result (IsAtWork catalogue.new work.new) }
     ensures stops { IfErr result (λ fault. (number : ℕ) → StopsAtEntry catalogue.old number (entry_by catalogue.old made.value) work.old (H.told host.old) (H.told host.new) fault) }
     ensures quiet { BlamesWriting result (H.told host.old) (H.told host.new) }
+    ensures last { FailedLast (failed_in result) (H.told host.old) (H.told host.new) }
     ensures same { SameButOutput (H.told host.old) (H.told host.new) }
     ensures tests { RisesByOpen catalogue.old work.old.engine steps.old steps.new }
 {
@@ -116,7 +118,7 @@ fn take_out(
 
 // Whether the first time is before the second, where none is before all times.
 fn is_before(time: Option<u64>, other: Option<u64>) -> bool
-    ensures { result ≡ false → IsUpTo other time }
+    ensures { (result ≡ false) ↔ IsUpTo other time }
 {
     match (time, other) {
         (_, None) => false,

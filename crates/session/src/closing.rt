@@ -1,7 +1,8 @@
 //! The closing of epochs.
-ghost use Rattle.std.specs.Prelude.{◌≡◌, ℕ, IsSome, IfErr, OnOk};
+ghost use Rattle.std.specs.Prelude.{◌≡◌, ◌<◌, ℕ, IsSome, IfErr, OnOk, length};
+ghost use Rattle.cay_host.specs.Calls.{FailedLast};
 ghost use Rattle.cay_host.specs.Output.{SameButOutput};
-ghost use Rattle.session.specs.Feeds.{BlamesWriting};
+ghost use Rattle.session.specs.Feeds.{BlamesWriting, failed_in};
 ghost use Rattle.session.specs.Fronts.{AreFronts};
 ghost use Rattle.session.specs.Standing.{HasClosed, HasShut, IsAtWork, IsReadyForEvent, IsTimely};
 ghost use Rattle.session.specs.ForEachHistory.{FailsAtOpen, FailsInClosing, OwesClosing, OwesOpen, PutsOpenRows, WritesOpen};
@@ -58,11 +59,13 @@ pub fn close_before<H: Host, L: Ledger>(
     requires at_work { IsAtWork catalogue.now work.old }
     requires timely { IsTimely work.old.engine at }
     ensures owes { OnOk result (OwesClosing catalogue.now at work.old work.new (H.told host.old) (H.told host.new)) }
+    ensures few { OnOk result (length work.new.rows < 65536) }
     ensures ready { OnOk result (IsReadyForEvent catalogue.now at work.old.engine work.new.engine) }
     ensures fronts { OnOk result (AreFronts catalogue.now.streams work.new.fronts) }
     ensures born { work.new.born ≡ work.old.born }
     ensures fails { IfErr result (FailsInClosing catalogue.now at work.old (H.told host.old) (H.told host.new)) }
     ensures quiet { BlamesWriting result (H.told host.old) (H.told host.new) }
+    ensures last { FailedLast (failed_in result) (H.told host.old) (H.told host.new) }
     ensures same { SameButOutput (H.told host.old) (H.told host.new) }
     ensures tests { RisesByClosing catalogue.now at work.old.engine steps.old steps.new }
 {
@@ -90,6 +93,7 @@ pub fn close_open<H: Host, L: Ledger>(
     ensures at_work { OnOk result (IsAtWork catalogue.now work.new) }
     ensures fails { IfErr result (FailsAtOpen catalogue.now work.old (H.told host.old) (H.told host.new)) }
     ensures quiet { BlamesWriting result (H.told host.old) (H.told host.new) }
+    ensures last { FailedLast (failed_in result) (H.told host.old) (H.told host.new) }
     ensures same { SameButOutput (H.told host.old) (H.told host.new) }
     ensures tests { RisesByOpen catalogue.now work.old.engine steps.old steps.new }
 {
@@ -112,6 +116,7 @@ pub fn close_last<H: Host, L: Ledger>(
     ensures ends { WritesOpen catalogue.now work.old (H.told host.old) (H.told host.new) result }
     ensures shut { OnOk result (HasShut catalogue.now work.old.engine work.new.engine) }
     ensures quiet { BlamesWriting result (H.told host.old) (H.told host.new) }
+    ensures last { FailedLast (failed_in result) (H.told host.old) (H.told host.new) }
     ensures same { SameButOutput (H.told host.old) (H.told host.new) }
     ensures tests { RisesByOpen catalogue.now work.old.engine steps.old steps.new }
 {

@@ -1,8 +1,9 @@
 //! The work on one event, or on a line that is refused.
 ghost use Rattle.std.specs.Prelude.{◌≡◌, ℕ, Some, IfErr, IfNone, IfSome, OnOk, is_some};
+ghost use Rattle.cay_host.specs.Calls.{FailedLast};
 ghost use Rattle.cay_host.specs.Output.{SameButOutput};
 ghost use Rattle.epoch_engine.specs.Offers.{IsHeard, IsLate, IsNotAhead, with_tuple};
-ghost use Rattle.session.specs.Feeds.{BlamesWriting};
+ghost use Rattle.session.specs.Feeds.{BlamesWriting, failed_write, failed_in};
 ghost use Rattle.courses.specs.Fits.{Fits};
 ghost use Rattle.courses.specs.declared.refusal.Refusal.TheVariants.{IsOutOfOrder};
 ghost use Rattle.courses.specs.Course.{Hears};
@@ -31,6 +32,7 @@ use std::alloc::Global;
 pub fn refuse<H: Host>(host: &mut H, work: &mut Work, refusal: Refusal) -> SessionFault
     ensures by { RefusesBy work.old.rows refusal (H.told host.old) (H.told host.new) result }
     ensures quiet { Blames result (H.told host.old) (H.told host.new) }
+    ensures last { FailedLast (failed_write result) (H.told host.old) (H.told host.new) }
     ensures same { SameButOutput (H.told host.old) (H.told host.new) }
 {
     match write_rows(host, &mut work.rows) {
@@ -75,6 +77,7 @@ fn close_and_offer<H: Host, L: Ledger>(
     ensures at_work { OnOk result (IsAtWork catalogue.now work.new) }
     ensures stops { IfErr result (StopsAtEntry catalogue.now line.number (Hears (event_of line.event)) work.old (H.told host.old) (H.told host.new)) }
     ensures quiet { BlamesWriting result (H.told host.old) (H.told host.new) }
+    ensures last { FailedLast (failed_in result) (H.told host.old) (H.told host.new) }
     ensures same { SameButOutput (H.told host.old) (H.told host.new) }
     ensures tests { RisesByClosing catalogue.now line.event.tuple.at work.old.engine steps.old steps.new }
 {
@@ -100,6 +103,7 @@ pub fn work_on_event<H: Host, L: Ledger>(
     ensures at_work { OnOk result (IsAtWork catalogue.now work.new) }
     ensures stops { IfErr result (StopsAtEntry catalogue.now line.number (Hears (event_of line.event)) work.old (H.told host.old) (H.told host.new)) }
     ensures quiet { BlamesWriting result (H.told host.old) (H.told host.new) }
+    ensures last { FailedLast (failed_in result) (H.told host.old) (H.told host.new) }
     ensures same { SameButOutput (H.told host.old) (H.told host.new) }
     ensures tests { RisesByClosing catalogue.now line.event.tuple.at work.old.engine steps.old steps.new }
 {

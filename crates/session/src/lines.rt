@@ -1,8 +1,9 @@
 //! The work on the lines of an event text.
 ghost use Rattle.std.specs.Prelude.{◌≡◌, false, true, [], IfErr, IfOk, OnOk};
+ghost use Rattle.cay_host.specs.Calls.{FailedLast};
 ghost use Rattle.cay_host.specs.Output.{SameButOutput};
 ghost use Rattle.event_csv.specs.Fed.{IsPart, unread_lines};
-ghost use Rattle.session.specs.Feeds.{BlamesWriting};
+ghost use Rattle.session.specs.Feeds.{BlamesWriting, failed_in};
 ghost use Rattle.session.specs.Standing.{IsAtWork, IsThrough};
 ghost use Rattle.session.specs.HandsOutSomeLines.{HandsOutSomeLines, Progresses};
 ghost use Rattle.session.specs.ForEachHistory.{EndsOver, GoesThrough, HearsLines, HearsRest, StopsOver};
@@ -38,6 +39,7 @@ pub fn work_on_lines<H: Host, L: Ledger>(
     ensures gone { OnOk result (HandsOutSomeLines feed.old feed.new) }
     ensures part { OnOk result (IsPart feed.new) }
     ensures quiet { BlamesWriting result (H.told host.old) (H.told host.new) }
+    ensures last { FailedLast (failed_in result) (H.told host.old) (H.told host.new) }
     ensures same { SameButOutput (H.told host.old) (H.told host.new) }
     ensures tests { RisesByLines catalogue.old feed.old false work.old.engine steps.old steps.new }
 {
@@ -63,6 +65,7 @@ fn work_through<H: Host, L: Ledger>(
     ensures part { OnOk result (IsPart feed.new) }
     ensures stops { IfErr result (StopsOver catalogue.old feed.old work.old (H.told host.old) (H.told host.new)) }
     ensures quiet { BlamesWriting result (H.told host.old) (H.told host.new) }
+    ensures last { FailedLast (failed_in result) (H.told host.old) (H.told host.new) }
     ensures same { SameButOutput (H.told host.old) (H.told host.new) }
     ensures tests { RisesByLines catalogue.old feed.old false work.old.engine steps.old steps.new }
 {
@@ -90,6 +93,7 @@ fn work_on_line<H: Host, L: Ledger>(
     ensures stops { IfErr result (StopsOver catalogue.old feed.old work.old (H.told host.old) (H.told host.new)) }
     ensures quiet { OnOk result ((H.told host.new).write_faults ≡ (H.told host.old).write_faults) }
     ensures blames { IfErr result (λ fault. Blames fault (H.told host.old) (H.told host.new)) }
+    ensures last { FailedLast (failed_in result) (H.told host.old) (H.told host.new) }
     ensures same { SameButOutput (H.told host.old) (H.told host.new) }
     ensures tests { RisesByLines catalogue.old feed.old false work.old.engine steps.old steps.new }
     ensures moved { IfOk result (TestsMoved catalogue.old catalogue.new feed.old feed.new work.old.engine work.new.engine steps.old steps.new) }
@@ -125,6 +129,7 @@ pub fn work_on_rest<H: Host, L: Ledger>(
     ensures stands { OnOk result (HearsRest catalogue.old feed.now work.old catalogue.new work.new) }
     ensures through { OnOk result (IsThrough catalogue.new work.new.engine) }
     ensures quiet { BlamesWriting result (H.told host.old) (H.told host.new) }
+    ensures last { FailedLast (failed_in result) (H.told host.old) (H.told host.new) }
     ensures same { SameButOutput (H.told host.old) (H.told host.new) }
     ensures tests { RisesByLines catalogue.old feed.now true work.old.engine steps.old steps.new }
 {

@@ -2,6 +2,7 @@
 ghost use Rattle.std.specs.Prelude.{◌≡◌, ℕ, [], List, None, false, true, IfErr, IfOk, OnErr, OnOk, take};
 ghost use Rattle.semantics.specs.Histories.{Event};
 ghost use Rattle.splitter.specs.Chains.{lines_of};
+ghost use Rattle.cay_host.specs.Calls.{FailedLast};
 ghost use Rattle.cay_host.specs.Output.{SameButOutput};
 ghost use Rattle.prefix_merge.specs.Counts.{CountsPlain, CountsStates};
 ghost use Rattle.epoch_engine.specs.EngineStandsFor as engines;
@@ -12,7 +13,7 @@ ghost use Rattle.catalogue.specs.Standing.{IsLayoutOver};
 ghost use Rattle.change_laws.specs.AtOne.{AreAtOne};
 ghost use Rattle.courses.specs.Course.{Course};
 ghost use Rattle.courses.specs.QuerySet.{QuerySet, set_in};
-ghost use Rattle.session.specs.Feeds.{BlamesWriting, BreaksAtPiece, HearsEnd, HearsPiece};
+ghost use Rattle.session.specs.Feeds.{BlamesWriting, BreaksAtPiece, failed_in, HearsEnd, HearsPiece};
 ghost use Rattle.session.specs.RunWork.{FinishesWithin, FeedsWithin};
 ghost use Rattle.session.specs.SessionView.{CountsWaiting, SessionStandsFor, StandsForPast, TrimsEngine, WorksFor, program_in};
 ghost use Rattle.session.specs.Standing.{lines_over};
@@ -35,7 +36,6 @@ use std::marker::Model;
 /// The work of queries on one event text, which may come behind events that the engine has heard: the
 /// text is fed piece by piece, and the rows of each epoch are written once a later event, a control line
 /// or the end of the text has closed it. A control line adds a query or drops one between epochs.
-#[derive(Drop)]
 pub struct Session {
     catalogue: Catalogue,
     work: Work,
@@ -43,6 +43,20 @@ pub struct Session {
     feed: Feed,
     fed: u64,
     ended: bool,
+}
+
+// A caller that lets a session go makes one call, where a derive would take each part apart at each place.
+impl Drop for Session {
+    fn drop(self) {
+        let Session {
+            catalogue: _catalogue,
+            work: _work,
+            limit: _,
+            feed: _feed,
+            fed: _,
+            ended: _,
+        } = self;
+    }
 }
 
 impl Model for Session {
@@ -157,6 +171,7 @@ impl Session {
         ensures ended { OnErr result (self.new.ended ≡ true) }
         ensures limit { self.new.limit ≡ self.old.limit }
         ensures quiet { BlamesWriting result (H.told host.old) (H.told host.new) }
+        ensures last { FailedLast (failed_in result) (H.told host.old) (H.told host.new) }
         ensures same { SameButOutput (H.told host.old) (H.told host.new) }
         ensures tests { FeedsWithin self.old piece.now steps.old steps.new }
     {
@@ -194,6 +209,7 @@ impl Session {
         ensures ended { self.new.ended ≡ true }
         ensures limit { self.new.limit ≡ self.old.limit }
         ensures quiet { BlamesWriting result (H.told host.old) (H.told host.new) }
+        ensures last { FailedLast (failed_in result) (H.told host.old) (H.told host.new) }
         ensures same { SameButOutput (H.told host.old) (H.told host.new) }
         ensures tests { FinishesWithin self.old steps.old steps.new }
     {

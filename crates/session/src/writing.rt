@@ -1,6 +1,8 @@
 //! The rows of closed epochs, on their way to the output.
-ghost use Rattle.std.specs.Prelude.{◌≡◌, ◌<◌, ◌++◌, [], ℕ, List, length, OnOk, OnErr};
+ghost use Rattle.std.specs.Prelude.{◌≡◌, ◌<◌, ◌++◌, [], ℕ, List, None, Some, length, OnOk, OnErr};
 ghost use Rattle.std.specs.List.{All, flat_map};
+ghost use Rattle.cay_host.specs.declared.call.Call.TheVariants.{Write};
+ghost use Rattle.cay_host.specs.Calls.{FailedLast};
 ghost use Rattle.cay_host.specs.Faults.{Rose};
 ghost use Rattle.cay_host.specs.Output.{Wrote, WrotePart, SameButOutput};
 ghost use Rattle.semantics.specs.Report.{line};
@@ -76,12 +78,15 @@ fn put_places(
     Ok(())
 }
 
-/// Writes the rows once there are many. Takes no memory.
+/// Writes the rows once there are many, so that there are fewer than 65,536 bytes of them behind it. Takes no memory.
 pub fn write_if_full<H: Host>(host: &mut H, rows: &mut Rows) -> Result<(), Failed>
     ensures ok { OnOk result ((rest : List ℕ) → Owes (rows.old ++ rest) (rows.new ++ rest) (H.told host.old) (H.told host.new)) }
+    ensures few { OnOk result (length rows.new < 65536) }
     ensures quiet { OnOk result ((H.told host.new).write_faults ≡ (H.told host.old).write_faults) }
+    ensures none_failed { OnOk result (FailedLast None (H.told host.old) (H.told host.new)) }
     ensures part { OnErr result (WrotePart rows.old (H.told host.old) (H.told host.new)) }
     ensures cause { OnErr result (Rose (H.told host.old).write_faults (H.told host.new).write_faults) }
+    ensures last_failed { OnErr result (FailedLast (Some Write) (H.told host.old) (H.told host.new)) }
     ensures same { SameButOutput (H.told host.old) (H.told host.new) }
 {
     if rows.as_slice().len() < FULL {
@@ -97,8 +102,10 @@ pub fn write_rows<H: Host>(host: &mut H, rows: &mut Rows) -> Result<(), Failed>
     ensures ok { OnOk result (Wrote rows.old (H.told host.old) (H.told host.new)) }
     ensures taken { OnOk result (rows.new ≡ []) }
     ensures quiet { OnOk result ((H.told host.new).write_faults ≡ (H.told host.old).write_faults) }
+    ensures none_failed { OnOk result (FailedLast None (H.told host.old) (H.told host.new)) }
     ensures part { OnErr result (WrotePart rows.old (H.told host.old) (H.told host.new)) }
     ensures cause { OnErr result (Rose (H.told host.old).write_faults (H.told host.new).write_faults) }
+    ensures last_failed { OnErr result (FailedLast (Some Write) (H.told host.old) (H.told host.new)) }
     ensures same { SameButOutput (H.told host.old) (H.told host.new) }
 {
     write_whole(host, rows.as_slice())?;

@@ -6,7 +6,7 @@ use Rattle.session.proofs.changing.bring.Goals as goal
 
 -- no query was born later
 pub take-requires-clause-born : goal.take-requires-clause-born
-take-requires-clause-born c = latest_later c.args.catalogue.now c.args.work.now.born c.last_closed-since.result c.requires.at_work.born (c.is_before.ensures c.if-is_before.false)
+take-requires-clause-born c = latest_later c.args.catalogue.now c.args.work.now.born c.last_closed-since.result c.requires.at_work.born (c.is_before.ensures.0 c.if-is_before.false)
 
 -- the engine may be given what the catalogue told
 pub add-requires-clause-as_many : goal.add-requires-clause-as_many
@@ -39,4 +39,4 @@ returns-clause-changed c =
 pub returns-clause-at_work : goal.returns-clause-at_work
 returns-clause-at_work c =
     come_at_work c.args.catalogue.now c.take.new.self c.requires.at_work.in_order c.in_ok-added.ensures.stands c.args.work.now _ c.requires.at_work c.requires.closed (added_of c.args.query) c.last_closed-since.result c.in_ok-added.added c.last_closed-since.ensures
-    c.in_ok-added.ensures.come c.in_ok-added.ensures.told c.in_ok-add.ensures.added (latest_later c.args.catalogue.now c.args.work.now.born c.last_closed-since.result c.requires.at_work.born (c.is_before.ensures c.if-is_before.false)) refl refl
+    c.in_ok-added.ensures.come c.in_ok-added.ensures.told c.in_ok-add.ensures.added (latest_later c.args.catalogue.now c.args.work.now.born c.last_closed-since.result c.requires.at_work.born (c.is_before.ensures.0 c.if-is_before.false)) refl refl refl

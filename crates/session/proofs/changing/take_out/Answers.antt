@@ -39,4 +39,4 @@ returns-clause-changed c =
 pub returns-clause-at_work : goal.returns-clause-at_work
 returns-clause-at_work c =
     left_at_work c.args.catalogue.now c.drop_at.new.self c.requires.at_work.in_order c.in_ok-dropped.ensures.stands c.args.work.now _ c.requires.at_work c.requires.closed c.args.query c.in_ok-dropped.dropped c.requires.within c.requires.unread c.in_ok-dropped.ensures.ok
-    c.remove.ensures refl (rw c.stream_of-stream.ensures.value at c.forget_front.ensures c.args.catalogue.now.streams c.requires.at_work.fronts)
+    c.remove.ensures refl refl (rw c.stream_of-stream.ensures.value at c.forget_front.ensures c.args.catalogue.now.streams c.requires.at_work.fronts)

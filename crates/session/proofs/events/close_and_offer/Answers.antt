@@ -1,4 +1,4 @@
-use Rattle.std.proofs.Common.{ap, refl, subst, sym, ◌∙◌, ◌++◌, ◌∷◌, []}
+use Rattle.std.proofs.Common.{ap, ℕ, List, length, ◌<◌, refl, subst, sym, ◌∙◌, ◌++◌, ◌∷◌, []}
 use Rattle.std.proofs.lemmas.Result.{err_from_is_err_and}
 use Rattle.catalogue.specs.Coming.{IsLatest}
 use Rattle.epoch_engine.specs.EngineView as engine
@@ -59,6 +59,7 @@ pub returns-clause-at_work : goal.returns-clause-at_work
 returns-clause-at_work g c =
     at_work_more c.args.catalogue.now c.requires.at_work.in_order c.args.line.event c.requires.fits c.args.work.now.engine c.close_before.new.work.engine (rw c.at-at.ensures.value at c.in_ok-close_before.ensures.ready) c.requires.at_work.at_one
     c.offer_event.new.work c.in_ok-offer_event.ensures.heard (subst (λ time. IsLatest time c.args.catalogue.now) (sym (c.in_ok-offer_event.ensures.born ∙ c.close_before.ensures.born)) c.requires.at_work.born) (subst (AreFronts c.args.catalogue.now.streams) (sym c.in_ok-offer_event.ensures.fronts) c.in_ok-close_before.ensures.fronts)
+    (subst (λ (bytes : List ℕ). length bytes < 65536) (sym c.in_ok-offer_event.ensures.rows) c.in_ok-close_before.ensures.few)
 
 -- its closing tests no more than the open epoch asks for
 pub returns-in_err-close_before-clause-tests : goal.returns-in_err-close_before-clause-tests

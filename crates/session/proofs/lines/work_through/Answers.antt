@@ -16,6 +16,7 @@ lines-preserved g c = record {
   at_work = c.in_ok-work_on_line.ensures.at_work;
   gone = Gone-trans c.lines.invariant.gone c.work_on_line.ensures.gone;
   quiet = c.in_ok-work_on_line.ensures.quiet ∙ c.lines.invariant.quiet;
+  last = λ before. c.in_ok-work_on_line.ensures.last (c.lines.invariant.last before);
   same = SameButOutput-trans c.lines.invariant.same c.work_on_line.ensures.same;
 }
 

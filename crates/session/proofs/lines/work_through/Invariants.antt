@@ -1,4 +1,5 @@
-use Rattle.std.proofs.Common.{◌≡◌, length, false, List}
+use Rattle.std.proofs.Common.{◌≡◌, length, false, List, None}
+use Rattle.cay_host.specs.Calls.{FailedLast}
 use Rattle.cay_host.specs.Output.{SameButOutput}
 use Rattle.semantics.specs.Histories.{Event}
 use Rattle.event_csv.specs.Fed.{unread_lines}
@@ -17,6 +18,7 @@ invariant-lines g l = record {
   at_work : IsAtWork l.catalogue l.work;
   gone : HandsOutSomeLines l.initial.feed l.feed;
   quiet : (g.H.Host.told l.host).write_faults ≡ (g.H.Host.told l.initial.host).write_faults;
+  last : FailedLast None (g.H.Host.told l.initial.host) (g.H.Host.told l.host);
   same : SameButOutput (g.H.Host.told l.initial.host) (g.H.Host.told l.host);
 }
 

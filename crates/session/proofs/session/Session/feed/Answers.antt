@@ -69,30 +69,30 @@ returns-clause-fed g c =
 pub returns-then-is_err-clause-tests : goal.returns-then-is_err-clause-tests
 returns-then-is_err-clause-tests g c =
     subst (λ (s : SessionView). FeedsWithin s c.args.piece.now c.args.steps.now c.args.steps.now) c.self.view_is
-    (λ set past text states stands listed.
-    feeds_within _ set past text stands states c.args.steps.now c.args.steps.now c.args.piece.now c.front_of-within.result.now c.front_of-within.ensures
+    (λ set past text stands.
+    feeds_within _ set past text stands c.args.steps.now c.args.steps.now c.args.piece.now c.front_of-within.result.now c.front_of-within.ensures
     (omega arith))
 
 pub returns-in_err-work_on_lines-clause-tests : goal.returns-in_err-work_on_lines-clause-tests
 returns-in_err-work_on_lines-clause-tests g c =
     let pushed = of_ok c.push.result (sym c.is_err.ensures.value ∙ c.if-is_err.false) c.push.ensures.ok in
     subst (λ (s : SessionView). FeedsWithin s c.args.piece.now c.args.steps.now c.work_on_lines.new.steps) c.self.view_is
-    (λ set past text states stands listed.
-    feeds_within _ set past text stands states c.args.steps.now c.work_on_lines.new.steps c.args.piece.now c.front_of-within.result.now c.front_of-within.ensures
-    (rw pushed at c.work_on_lines.ensures.tests (events_so_far _ set past text stands) states (engine_stands _ set past text stands) listed))
+    (λ set past text stands.
+    feeds_within _ set past text stands c.args.steps.now c.work_on_lines.new.steps c.args.piece.now c.front_of-within.result.now c.front_of-within.ensures
+    (rw pushed at c.work_on_lines.ensures.tests (events_so_far _ set past text stands) (engine_stands _ set past text stands)))
 
 pub returns-then-within-piece-clause-tests : goal.returns-then-within-piece-clause-tests
 returns-then-within-piece-clause-tests g c =
     let pushed = of_ok c.push.result (sym c.is_err.ensures.value ∙ c.if-is_err.false) c.push.ensures.ok in
     subst (λ (s : SessionView). FeedsWithin s c.args.piece.now c.args.steps.now c.work_on_lines.new.steps) c.self.view_is
-    (λ set past text states stands listed.
-    feeds_within _ set past text stands states c.args.steps.now c.work_on_lines.new.steps c.args.piece.now c.front_of-within.result.now c.front_of-within.ensures
-    (rw pushed at c.work_on_lines.ensures.tests (events_so_far _ set past text stands) states (engine_stands _ set past text stands) listed))
+    (λ set past text stands.
+    feeds_within _ set past text stands c.args.steps.now c.work_on_lines.new.steps c.args.piece.now c.front_of-within.result.now c.front_of-within.ensures
+    (rw pushed at c.work_on_lines.ensures.tests (events_so_far _ set past text stands) (engine_stands _ set past text stands)))
 
 pub returns-clause-tests : goal.returns-clause-tests
 returns-clause-tests g c =
     let pushed = of_ok c.push.result (sym c.is_err.ensures.value ∙ c.if-is_err.false) c.push.ensures.ok in
     subst (λ (s : SessionView). FeedsWithin s c.args.piece.now c.args.steps.now c.work_on_lines.new.steps) c.self.view_is
-    (λ set past text states stands listed.
-    feeds_within _ set past text stands states c.args.steps.now c.work_on_lines.new.steps c.args.piece.now c.front_of-within.result.now c.front_of-within.ensures
-    (rw pushed at c.work_on_lines.ensures.tests (events_so_far _ set past text stands) states (engine_stands _ set past text stands) listed))
+    (λ set past text stands.
+    feeds_within _ set past text stands c.args.steps.now c.work_on_lines.new.steps c.args.piece.now c.front_of-within.result.now c.front_of-within.ensures
+    (rw pushed at c.work_on_lines.ensures.tests (events_so_far _ set past text stands) (engine_stands _ set past text stands)))

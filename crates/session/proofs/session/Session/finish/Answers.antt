@@ -30,6 +30,6 @@ returns-clause-finished g c =
 pub returns-clause-tests : goal.returns-clause-tests
 returns-clause-tests g c =
     subst (λ (s : SessionView). FinishesWithin s c.args.steps.now c.work_on_rest.new.steps) c.self.view_is
-    (λ set past text states stands listed.
-    finishes_within _ set past text stands states c.args.steps.now c.work_on_rest.new.steps
-    (c.work_on_rest.ensures.tests (events_so_far _ set past text stands) states (engine_stands _ set past text stands) listed))
+    (λ set past text stands.
+    finishes_within _ set past text stands c.args.steps.now c.work_on_rest.new.steps
+    (c.work_on_rest.ensures.tests (events_so_far _ set past text stands) (engine_stands _ set past text stands)))

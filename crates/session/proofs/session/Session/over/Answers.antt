@@ -1,4 +1,4 @@
-use Rattle.std.proofs.Common.{◌≤◌, sym, subst, refl, arith}
+use Rattle.std.proofs.Common.{◌<◌, ◌≤◌, ℕ, List, length, sym, subst, refl, arith}
 use Rattle.catalogue.specs.Coming.{IsLatest}
 use Rattle.event_csv.specs.Fed.{Fed, IsPart, line_feeds_so_far}
 use Rattle.session.specs.Fronts.{AreFronts}
@@ -9,7 +9,7 @@ use Rattle.session.proofs.session.Session.over.Goals as goal
 -- the session may go on
 pub invariant_of-result : goal.invariant_of-result
 invariant_of-result c = λ going. record {
-  at_work = record { in_order = c.queries-queries.ensures.stands; at_one = c.requires.at_one; born = subst (λ time. IsLatest time c.args.catalogue) (sym c.last_closed-born.ensures) c.requires.born; fronts = subst (AreFronts c.args.catalogue.streams) (sym c.new-3.ensures) (no_fronts c.args.catalogue.streams) };
+  at_work = record { in_order = c.queries-queries.ensures.stands; at_one = c.requires.at_one; born = subst (λ time. IsLatest time c.args.catalogue) (sym c.last_closed-born.ensures) c.requires.born; fronts = subst (AreFronts c.args.catalogue.streams) (sym c.new-3.ensures) (no_fronts c.args.catalogue.streams); few = subst (λ (bytes : List ℕ). length bytes < 65536) (sym c.new.ensures) (omega arith) };
   none_owed = c.new.ensures;
   within = omega arith;
   counted = subst (λ (feed : Fed). line_feeds_so_far feed ≤ 0) (sym c.new-4.ensures) (omega arith);
