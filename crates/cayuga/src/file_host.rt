@@ -2,12 +2,12 @@
 ghost use Rattle.std.specs.Prelude.{◌≡◌, ◌≤◌, ◌-◌, ◌^◌, None, false, true, is_some};
 ghost use Rattle.std.specs.Io.{ReadsAtMost};
 
-use cay_host::{Failed, Host, Side};
+use cay_host::{Call, Failed, Host, Side};
 use std::fs::{self, File};
 use std::io::{self, Read, Write};
 
 /// Files of the system for both sides, and standard output. Each write hands its whole slice to the
-/// system. It tells its counts and its sides, and no content.
+/// system. It tells its counts, its sides and its last call, where it failed, and no content.
 #[derive(Drop)]
 pub struct FileHost {
     rt: HostRuntime,
@@ -16,6 +16,7 @@ pub struct FileHost {
     attach_faults: u64,
     read_faults: u64,
     write_faults: u64,
+    failed: Option<Call>,
     ghost bounded: { (attach_faults ≤ 2 ^ 64 - 1) × (read_faults ≤ 2 ^ 64 - 1) × (write_faults ≤ 2 ^ 64 - 1) },
 }
 
@@ -32,6 +33,7 @@ impl FileHost {
             attach_faults: 0,
             read_faults: 0,
             write_faults: 0,
+            failed: None,
         }
     }
 }
@@ -43,6 +45,7 @@ impl Host for FileHost {
       attach_faults = host.attach_faults;
       read_faults = host.read_faults;
       write_faults = host.write_faults;
+      failed = host.failed;
       attached = of_side (is_some host.queries) (is_some host.events);
       files = None;
       left = λ _. None;
@@ -53,6 +56,7 @@ impl Host for FileHost {
     fn attach(&mut self, side: Side, name: &str) -> Result<(), Failed> {
         match fs::open(&self.rt, name) {
             Ok(file) => {
+                self.failed = None;
                 match side {
                     Side::Queries => self.queries = Some(file),
                     Side::Events => self.events = Some(file),
@@ -61,6 +65,7 @@ impl Host for FileHost {
             }
             Err(_) => {
                 self.attach_faults = self.attach_faults.saturating_add(1);
+                self.failed = Some(Call::Attach(side));
                 Err(Failed)
             }
         }
@@ -72,9 +77,13 @@ impl Host for FileHost {
             Side::Events => read_from(&mut self.events, buf),
         };
         match outcome {
-            Ok(n) => Ok(n),
+            Ok(n) => {
+                self.failed = None;
+                Ok(n)
+            }
             Err(_) => {
                 self.read_faults = self.read_faults.saturating_add(1);
+                self.failed = Some(Call::Read(side));
                 Err(Failed)
             }
         }
@@ -83,9 +92,13 @@ impl Host for FileHost {
     // A write that takes no byte of some is an error too.
     fn write(&mut self, bytes: &[u8]) -> Result<usize, Failed> {
         match self.rt.stdout().write(bytes) {
-            Ok(n) if n > 0 => Ok(n),
+            Ok(n) if n > 0 => {
+                self.failed = None;
+                Ok(n)
+            }
             _ => {
                 self.write_faults = self.write_faults.saturating_add(1);
+                self.failed = Some(Call::Write);
                 Err(Failed)
             }
         }

@@ -1,7 +1,9 @@
 -- What each piece of the events leaves of their hearing.
-use Rattle.std.proofs.Common.{◌≡◌, ◌∙◌, sym, ap, refl, subst, ℕ, ◌+◌, ◌<◌, ◌≤◌, List, [], ◌++◌, Bool, Option, Some, None, IfSome, false, true, length, map, take, length-append, length-take, length-take-le, append_assoc, append-nil, arith, Ok, Err}
+use Rattle.std.proofs.Common.{◌≡◌, ◌∙◌, sym, ap, refl, subst, ℕ, ◌+◌, ◌<◌, ◌≤◌, List, [], ◌++◌, Bool, Option, Some, None, IfSome, false, true, length, take, length-append, length-take, length-take-le, append_assoc, append-nil, arith, Ok, Err}
 use Rattle.std.proofs.lemmas.List.{take_all, take-append-le}
 use Rattle.std.specs.Io.KnownBytes.{prepend_known}
+use Rattle.cay_host.specs.declared.call.Call.TheVariants as call
+use Rattle.cay_host.specs.Calls.{FailedLast}
 use Rattle.cay_host.specs.declared.side.Side.TheVariants.{Queries, Events}
 use Rattle.cay_host.specs.Faults.{Rose}
 use Rattle.cay_host.specs.Input.{SameButRead, Took}
@@ -17,7 +19,7 @@ use Rattle.courses.specs.QuerySet.{QuerySet}
 use Rattle.courses.specs.Reports.{course_report, refused_in, report_of_closed}
 use Rattle.session.specs.declared.fault.SessionFault.{SessionFault}
 use Rattle.session.specs.declared.fault.SessionFault.TheVariants as fault
-use Rattle.session.specs.Feeds.{BlamesWriting, Feeds, Finishes, StopsAt, StopsAtPiece}
+use Rattle.session.specs.Feeds.{BlamesWriting, Feeds, Finishes, StopsAt, StopsAtPiece, failed_write}
 use Rattle.session.specs.WroteFront.{Beyond, WroteFront}
 use Rattle.session.specs.SessionView.{HasFinished, SessionStandsFor, SessionView}
 use Rattle.cayuga_run.specs.declared.status.Status.TheVariants.{Done, ReadFault}
@@ -74,7 +76,7 @@ heard_none set limit session told stands most = record {
   front = front_of_none (told.left Events);
   wrote = subst (λ t. Wrote t told told) (sym (nothing_closed set)) (Wrote-nil told);
   alone = record { attached = refl; queries = refl };
-  faults = record { attach = refl; read = refl; write = refl };
+  faults = record { attach = refl; read = refl; write = refl; last = λ before. before };
 }
 
 -- the size of a piece
@@ -87,9 +89,9 @@ heard_within h = let within = h.stands.within in let most = h.most in let counte
 
 module _ {set : QuerySet} {limit taken : ℕ} {session : SessionView} {old now next : Told} (h : HasHeard set limit taken session old now) where
   -- a piece was read to the front of a buffer
-  pub taken_more : (size : ℕ) (buffer rest : List ℕ) → length buffer ≤ 65536 → Took size buffer (now.left Events) (next.left Events) → SameButRead Events now next → next.read_faults ≡ now.read_faults
+  pub taken_more : (size : ℕ) (buffer rest : List ℕ) → length buffer ≤ 65536 → Took size buffer (now.left Events) (next.left Events) → SameButRead Events now next → next.read_faults ≡ now.read_faults → next.failed ≡ None
       → HasTaken set limit h.bytes (take size (buffer ++ rest)) session old next
-  taken_more size buffer rest room took same quiet = record {
+  taken_more size buffer rest room took same quiet none = record {
     stands = h.stands;
     most = h.most;
     few = let fits = took.fits in let size_is = length-take size (buffer ++ rest) in omega (arith, room, fits, size_is);
@@ -97,7 +99,7 @@ module _ {set : QuerySet} {limit taken : ℕ} {session : SessionView} {old now n
         (took.front ∙ ap (λ piece. prepend_known piece (next.left Events)) (sym (take-append-le size buffer rest took.fits)));
     wrote = record { written = same.written ∙ h.wrote.written; lines = same.lines ∙ h.wrote.lines };
     alone = record { attached = same.attached ∙ h.alone.attached; queries = ap (λ f. f Queries) same.others ∙ h.alone.queries };
-    faults = record { attach = same.attach_faults ∙ h.faults.attach; read = quiet ∙ h.faults.read; write = same.write_faults ∙ h.faults.write };
+    faults = record { attach = same.attach_faults ∙ h.faults.attach; read = quiet ∙ h.faults.read; write = same.write_faults ∙ h.faults.write; last = λ before. none };
   }
 
   -- a read failed
@@ -118,11 +120,12 @@ module _ {set : QuerySet} {limit taken : ℕ} {session : SessionView} {old now n
       )
 
   -- a read that failed is blamed on the events
-  pub blames_read : SameButRead Events now next → BlamesHost old next (ReadFault Events)
-  blames_read same = record {
+  pub blames_read : SameButRead Events now next → next.failed ≡ Some (call.Read Events) → BlamesHost old next (ReadFault Events)
+  blames_read same last = record {
     attach = λ other. same.attach_faults ∙ h.faults.attach;
     read = λ other. absurd (other Events refl);
     write = λ other. same.write_faults ∙ h.faults.write;
+    last = last;
   }
 
   -- a read of the events touches nothing else
@@ -139,13 +142,13 @@ module _ {set : QuerySet} {limit : ℕ} {bytes piece : List ℕ} {session : Sess
   front_written = t.front ∙ ap (λ f. prepend_known (bytes ++ piece) (f Events)) (sym same.left)
 
   -- where no write fails, no count of faults rises
-  pub same_faults : next.write_faults ≡ now.write_faults → SameFaults old next
-  same_faults quiet = record { attach = same.attach_faults ∙ t.faults.attach; read = same.read_faults ∙ t.faults.read; write = quiet ∙ t.faults.write }
+  pub same_faults : next.write_faults ≡ now.write_faults → FailedLast None now next → SameFaults old next
+  same_faults quiet last = record { attach = same.attach_faults ∙ t.faults.attach; read = same.read_faults ∙ t.faults.read; write = quiet ∙ t.faults.write; last = λ before. last (t.faults.last before) }
 
   -- the piece was heard
-  unfoldable pub heard_more : (after : SessionView) (taken size : ℕ) → length bytes ≡ taken → length piece ≡ size → Feeds after set [] bytes piece now next → after.limit ≡ session.limit → next.write_faults ≡ now.write_faults
+  unfoldable pub heard_more : (after : SessionView) (taken size : ℕ) → length bytes ≡ taken → length piece ≡ size → Feeds after set [] bytes piece now next → after.limit ≡ session.limit → next.write_faults ≡ now.write_faults → FailedLast None now next
       → HasHeard set limit (taken + size) after old next
-  heard_more after taken size counted sized feeds keeps quiet = record {
+  heard_more after taken size counted sized feeds keeps quiet last = record {
     bytes = bytes ++ piece;
     counted = let both = length-append bytes piece in omega (arith, both, counted, sized);
     stands = feeds.stands;
@@ -153,21 +156,22 @@ module _ {set : QuerySet} {limit : ℕ} {bytes piece : List ℕ} {session : Sess
     front = front_written;
     wrote = wrote_beyond t.wrote feeds.wrote;
     alone = alone_written;
-    faults = same_faults quiet;
+    faults = same_faults quiet last;
   }
 
   -- a fault ended the session
-  pub blames_fault : (fault : SessionFault) → BlamesWriting (Err fault) now next → BlamesHost old next (status_of fault)
-  blames_fault (fault.Refused (HasFault line why)) quiet = blames_none _ (same_faults quiet)
-  blames_fault (fault.Refused (HasControlFault line why)) quiet = blames_none _ (same_faults quiet)
-  blames_fault (fault.Refused (IsOutOfOrder line at seen)) quiet = blames_none _ (same_faults quiet)
-  blames_fault (fault.TooMuch most) quiet = blames_none _ (same_faults quiet)
-  blames_fault fault.WriteFault quiet = record {
+  pub blames_fault : (fault : SessionFault) → BlamesWriting (Err fault) now next → FailedLast (failed_write fault) now next → BlamesHost old next (status_of fault)
+  blames_fault (fault.Refused (HasFault line why)) quiet last = blames_none _ refl (same_faults quiet last)
+  blames_fault (fault.Refused (HasControlFault line why)) quiet last = blames_none _ refl (same_faults quiet last)
+  blames_fault (fault.Refused (IsOutOfOrder line at seen)) quiet last = blames_none _ refl (same_faults quiet last)
+  blames_fault (fault.TooMuch most) quiet last = blames_none _ refl (same_faults quiet last)
+  blames_fault fault.WriteFault quiet last = record {
     attach = λ other. same.attach_faults ∙ t.faults.attach;
     read = λ other. same.read_faults ∙ t.faults.read;
     write = λ other. absurd (other refl);
+    last = last;
   }
-  blames_fault fault.Memory quiet = blames_none _ (same_faults quiet)
+  blames_fault fault.Memory quiet last = blames_none _ refl (same_faults quiet last)
 
   module _ (text : List ℕ) (ended : Bool) (cut : text ≡ take limit (bytes ++ piece)) (all : ended ≡ true → (piece ≡ []) × IfSome (next.left Events) (λ rest. rest ≡ [])) where
     within_all : ended ≡ true → length (bytes ++ piece) ≤ limit

@@ -1,5 +1,6 @@
 pub mod AnswerLemmas
 pub mod BlamingLemmas
+pub mod CallLemmas
 pub mod EndLemmas
 pub mod GrowingLemmas
 pub mod HearingLemmas

@@ -10,7 +10,6 @@ use Rattle.cay_host.specs.Output.{SameButOutput}
 use Rattle.cay_host.specs.Told.{Told}
 use Rattle.catalogue.specs.Judgement.{Accepts, Judged}
 use Rattle.courses.specs.QuerySet.{QuerySet, set_of}
-use Rattle.courses.specs.Reports.{refused_in}
 use Rattle.session.specs.SessionView.{SessionView}
 use Rattle.cayuga_run.specs.Accepting.{IsAcceptedWith}
 use Rattle.cayuga_run.specs.Begun.{HasAccepted}

@@ -1,6 +1,8 @@
 -- From what was read of the queries to why they weren't accepted.
 use Rattle.std.proofs.Common.{◌≡◌, ◌∙◌, sym, ap, subst, ℕ, ◌+◌, List, [], ◌++◌, Option, Some, None, IfSome, arith, length, true, false, length-append, append-nil}
 use Rattle.std.specs.Io.KnownBytes.{prepend_known, append_known}
+use Rattle.cay_host.specs.Attaching.{Attaches, AttachFails, SameButSides}
+use Rattle.cay_host.specs.Calls.{FailedLast}
 use Rattle.cay_host.specs.Files.{file_of, lacks}
 use Rattle.cay_host.specs.Input.{SameButRead}
 use Rattle.cay_host.specs.declared.side.Side.TheVariants.{Queries, Events}
@@ -14,7 +16,7 @@ use Rattle.cayuga_run.specs.declared.status.Status.{Status}
 use Rattle.cayuga_run.specs.declared.status.Status.TheVariants.{Done, Usage, BadQuery, Cycle, BadEvent, OutOfOrder, AttachFault, ReadFault, WriteFault, TooMuch, Memory, BadControl}
 use Rattle.cayuga_run.specs.Begun.{HasAccepted, HasRead}
 use Rattle.cayuga_run.specs.QueryFailing.{QueriesFail, TextFails}
-use Rattle.cayuga_run.specs.Refusing.{AreNotAccepted}
+use Rattle.cayuga_run.specs.Refusing.{AreNotAccepted, AreNotAttached}
 use Rattle.cayuga_run.specs.RunOutcome.{IsAttachFault, IsMemory, IsReadFault, MemoryText, RunOutcome}
 use Rattle.cayuga_run.specs.Works.{Run}
 use Rattle.cayuga_run.proofs.JudgementLemmas.{past_limit}
@@ -80,8 +82,35 @@ pub record HasQueries (queries : List ℕ) (old mid : Told) : Type 0 where
   pub attach_faults : mid.attach_faults ≡ old.attach_faults
   pub read_faults : mid.read_faults ≡ old.read_faults
   pub write_faults : mid.write_faults ≡ old.write_faults
+  pub none_failed : FailedLast None old mid
   pub files : mid.files ≡ old.files
   pub silent : KeepsOutput old mid
+
+-- the queries were attached
+pub are_attached : (queries : List ℕ) (old mid : Told) → Attaches Queries queries old mid → SameButSides old mid → mid.attach_faults ≡ old.attach_faults → mid.failed ≡ None → old.attached Events ≡ false → HasQueries queries old mid
+are_attached queries old mid attaches same quiet none free = record {
+  there = attaches.there;
+  text = ap (λ f. f Queries) attaches.left;
+  attached = ap (λ f. f Queries) attaches.attached;
+  events = ap (λ f. f Events) attaches.attached ∙ free;
+  unread = ap (λ f. f Events) attaches.left;
+  attach_faults = quiet;
+  read_faults = same.read_faults;
+  write_faults = same.write_faults;
+  none_failed = λ before. none;
+  files = same.files;
+  silent = record { written = same.written; lines = same.lines };
+}
+
+-- the queries couldn't be attached
+pub not_attached : (queries : List ℕ) (old new : Told) → AttachFails queries old new → SameButSides old new → old.attached Queries ≡ false → old.attached Events ≡ false → AreNotAttached queries old new
+not_attached queries old new fails same queries_free events_free = record {
+  cause = fails.cause;
+  stopped = (ap (λ f. f Queries) fails.attached ∙ queries_free, ap (λ f. f Events) fails.attached ∙ events_free);
+  unread = ap (λ f. f Queries) fails.left;
+  others = ap (λ f. f Events) fails.left;
+  silent = record { written = same.written; lines = same.lines };
+}
 
 -- reading keeps the output
 kept_by_reading : {old mid new : Told} → KeepsOutput old mid → SameButRead Queries mid new → KeepsOutput old new
@@ -131,6 +160,7 @@ queries_accepted queries judged old mid new has kept read = record {
   attach_faults = kept.attach_faults ∙ has.attach_faults;
   read_faults = read.read_faults ∙ has.read_faults;
   write_faults = kept.write_faults ∙ has.write_faults;
+  none_failed = λ before. read.none_failed (has.none_failed before);
   read = read.read;
   events = ap (λ f. f Events) kept.others ∙ has.unread;
   files = kept.files ∙ has.files;

@@ -1,5 +1,5 @@
 -- From the hearing of the generator's events to the line of their numbers, and to what is written of it.
-use Rattle.std.proofs.Common.{◌≡◌, ◌∙◌, sym, ap, refl, subst, ℕ, ◌+◌, ◌-◌, ◌^◌, List, [], ◌∷◌, ◌++◌, Some, append_assoc, codes, decimal, max, min, true, arith}
+use Rattle.std.proofs.Common.{◌≡◌, ◌∙◌, sym, ap, refl, subst, ℕ, ◌+◌, ◌-◌, ◌^◌, List, [], ◌∷◌, ◌++◌, Some, append_assoc, codes, decimal, max, min, arith}
 use Rattle.semantics.specs.Histories.{Event}
 use Rattle.cay_host.specs.Output.{add_lines, count_lf}
 use Rattle.cay_host.specs.TallyHost.{silent_told}

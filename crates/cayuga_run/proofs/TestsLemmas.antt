@@ -1,5 +1,5 @@
 -- How many conditions are tested at most, from piece to piece and from call to call.
-use Rattle.std.proofs.Common.{◌≡◌, ◌∙◌, sym, ap, subst, refl, ℕ, ◌+◌, ◌≤◌, List, [], ◌++◌, Bool, Option, IfSome, false, true, length, take, append-nil, arith}
+use Rattle.std.proofs.Common.{◌≡◌, ◌∙◌, sym, ap, subst, refl, ℕ, ◌≤◌, List, [], ◌++◌, Bool, Option, IfSome, false, true, length, take, append-nil, arith}
 use Rattle.std.proofs.lemmas.List.{take_all}
 use Rattle.std.specs.Io.KnownBytes.{prepend_known}
 use Rattle.cay_host.specs.declared.side.Side.TheVariants.{Events}
@@ -19,15 +19,14 @@ use Rattle.cayuga_run.proofs.ReadingLemmas.{accepted_as, both_ways}
 
 -- no test was made
 pub rises_not : (set : QuerySet) (text : List ℕ) (ended : Bool) (count : ℕ) → RisesWithin set text ended count count
-rises_not set text ended count states are = omega arith
+rises_not set text ended count = omega arith
 
 -- the tests of a session behind those that its text asks for
 pub rises_more : (set : QuerySet) {session : SessionView} {bytes : List ℕ} (first before after : ℕ) (longer : List ℕ → List ℕ) (ended : Bool)
     → SessionStandsFor session set [] bytes → RisesWithin set bytes false first before → StaysWithin session longer ended before after → RisesWithin set (longer bytes) ended first after
-rises_more set {session} {bytes} first before after longer ended stands rises stays states are =
-    let more = stays set [] bytes states stands are in
-    let early = rises states are in
-    omega (arith, early, more)
+rises_more set {session} {bytes} first before after longer ended stands rises stays =
+    let more = stays set [] bytes stands in
+    omega (arith, rises, more)
 
 module _ {set : QuerySet} {limit : ℕ} {bytes piece : List ℕ} {session : SessionView} {old now : Told} (first before after : ℕ) (t : HasTaken set limit bytes piece session old now) (rises : RisesWithin set bytes false first before) where
   -- those of one piece more, within the limit

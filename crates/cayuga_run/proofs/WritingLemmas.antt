@@ -1,5 +1,5 @@
 -- From accepted queries and what was written to the outcome of a writing.
-use Rattle.std.proofs.Common.{◌≡◌, ◌∙◌, sym, subst, ℕ, List, [], Option, Some, None, IfSome}
+use Rattle.std.proofs.Common.{◌≡◌, sym, subst, ℕ, List, [], Option, Some, None, IfSome}
 use Rattle.cay_host.specs.declared.side.Side.TheVariants.{Queries}
 use Rattle.cay_host.specs.Faults.{Rose}
 use Rattle.cay_host.specs.Files.{file_of}
@@ -15,6 +15,7 @@ use Rattle.cayuga_run.specs.WritingText.{WritesText}
 use Rattle.cayuga_run.specs.Refusing.{AreNotAccepted}
 use Rattle.cayuga_run.specs.Works.{Writing}
 use Rattle.cayuga_run.specs.WritingOutcome.{WritingOutcome}
+use Rattle.cayuga_run.proofs.BlamingLemmas.{accepted_without_fault, blames_after}
 use Rattle.cayuga_run.proofs.RunLemmas.{Wrote-after}
 
 -- what holds of an accepted text
@@ -65,8 +66,4 @@ writing_ends writing judged text old mid new (TooMuch most) has same writes kept
 
 -- what was accepted before a text is written counts no fault
 pub accepted_blames : {queries : List ℕ} {judged : Judged} {old middle new : Told} {status : Status} → HasAccepted queries judged old middle → BlamesHost middle new status → BlamesHost old new status
-accepted_blames accepted later = record {
-  attach = λ other. later.attach other ∙ accepted.attach_faults;
-  read = λ other. later.read other ∙ accepted.read_faults;
-  write = λ other. later.write other ∙ accepted.write_faults;
-}
+accepted_blames {status = status} accepted later = blames_after status (accepted_without_fault accepted) later

@@ -41,7 +41,7 @@ pub record Answers (work : Work) (limit : ℕ) (old new : Told) (status : Status
   pub read_fault : (side : Side) → status ≡ ReadFault side → ByWork work ⊥ (λ run. IsReadFault side run limit old new) (λ writing. (side ≡ Queries) × AreNotRead writing.queries old new) (λ load. ⊥)
   pub write_fault : status ≡ WriteFault → ByWork work ⊥ (λ run. IsWriteFault run limit old new) (λ writing. IsPartlyWritten writing old new) (λ load. Rose old.write_faults new.write_faults × IsLoaded WrotePart load old new)
   pub memory : status ≡ Memory → ByWork work (new ≡ old) (λ run. IsMemory run limit old new) (λ writing. KeepsOutput old new) (λ load. KeepsOutput old new)
-  -- a fault of the host is the answer
+  -- a fault of the host is the answer, and nothing was read or written behind it
   pub blames : BlamesHost old new status
   -- how much of its files was read
   pub reads : Reads work limit old new

@@ -1,6 +1,7 @@
 -- A job whose queries are accepted, and how its run then ends. No public clause cites this module.
-use Rattle.std.specs.Prelude.{◌≡◌, ℕ, Bool, List, [], true, false, IfSome}
+use Rattle.std.specs.Prelude.{◌≡◌, ℕ, Bool, List, [], None, true, false, IfSome}
 use Rattle.cay_host.specs.declared.side.Side.TheVariants.{Queries, Events}
+use Rattle.cay_host.specs.Calls.{FailedLast}
 use Rattle.cay_host.specs.Files.{lacks}
 use Rattle.cay_host.specs.Output.{KeepsOutput}
 use Rattle.cay_host.specs.Told.{Told}
@@ -19,6 +20,7 @@ pub record HasAccepted (queries : List ℕ) (judged : Judged) (old new : Told) :
   pub attach_faults : new.attach_faults ≡ old.attach_faults
   pub read_faults : new.read_faults ≡ old.read_faults
   pub write_faults : new.write_faults ≡ old.write_faults
+  pub none_failed : FailedLast None old new
   pub read : IfSome (new.left Queries) (λ rest. rest ≡ [])
   pub events : new.left Events ≡ old.left Events
   pub files : new.files ≡ old.files
@@ -28,6 +30,7 @@ pub record HasAccepted (queries : List ℕ) (judged : Judged) (old new : Told) :
 pub record HasRead (judged : Judged) (old new : Told) : Type 0 where
   pub accepts : IfSome (old.left Queries) (λ text. Accepts text judged)
   pub read_faults : new.read_faults ≡ old.read_faults
+  pub none_failed : FailedLast None old new
   pub read : IfSome (new.left Queries) (λ rest. rest ≡ [])
 
 -- how a run over these events ends, whatever queries were accepted before they are attached

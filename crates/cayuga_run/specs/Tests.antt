@@ -8,17 +8,17 @@ use Rattle.courses.specs.QuerySet.{QuerySet, set_of}
 use Rattle.courses.specs.Reports.{closed_in}
 use Rattle.load_texts.specs.EventText.{event_text}
 use Rattle.load_texts.specs.QueryText.{query_text}
-use Rattle.session.specs.RunWork.{AreStates, States, course_work}
+use Rattle.session.specs.RunWork.{course_work}
 use Rattle.cayuga_run.specs.Accepting.{IsAcceptedWith}
 use Rattle.cayuga_run.specs.Works.{Work, ByWork, Load}
 
--- the tests that the epochs ask for that an event text closes, which has ended or not, each of the queries that are there then; the states of their network are the prefixes of their lines, each once
-abbrev pub tests_of_closed : QuerySet → States → List ℕ → Bool → ℕ
-tests_of_closed set states text ended = course_work states set (closed_in set text ended)
+-- the tests that the epochs ask for that an event text closes, which has ended or not, each of the queries that are there then
+abbrev pub tests_of_closed : QuerySet → List ℕ → Bool → ℕ
+tests_of_closed set text ended = course_work set (closed_in set text ended)
 
 -- a count of tests rose by no more than the epochs ask for that an event text closes
 abbrev pub RisesWithin : QuerySet → List ℕ → Bool → ℕ → ℕ → Type 0
-RisesWithin set text ended old new = (states : States) → AreStates states → new ≤ old + tests_of_closed set states text ended
+RisesWithin set text ended old new = new ≤ old + tests_of_closed set text ended
 
 -- these bytes were taken of an event text, which has ended behind them or not, and a count of tests rose by no more than the epochs ask for that those within the limit close
 pub record TestsOfTaken (set : QuerySet) (limit : ℕ) (text rest : Option (List ℕ)) (old new : ℕ) : Type 0 where

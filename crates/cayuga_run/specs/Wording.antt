@@ -53,6 +53,7 @@ control_words control.BadForm = codes "not a control line"
 control_words (control.Query why) = query_words why
 control_words (control.UnknownQuery name) = codes "no query " ++ name
 control_words (control.InUse name reader) = name ++ (codes " is read by " ++ reader)
+control_words control.NotHere = codes "not in explain"
 
 -- what is wrong with an event that comes too late, in words: its time is before that of the last event, or was closed by a control line
 abbrev pub late_words : ℕ → ℕ → List ℕ

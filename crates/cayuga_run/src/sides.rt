@@ -1,9 +1,10 @@
 //! Reading a side whole.
-ghost use Rattle.std.specs.Prelude.{◌≡◌, ◌+◌, true, IfOk, MatchResult};
+ghost use Rattle.std.specs.Prelude.{◌≡◌, ◌+◌, None, true, IfOk, MatchResult};
 ghost use Rattle.std.specs.Io.KnownBytes.{prepend_known};
+ghost use Rattle.cay_host.specs.Calls.{FailedLast};
 ghost use Rattle.cay_host.specs.Input.{SameButRead};
 ghost use Rattle.cayuga_run.specs.Reading.{TakesAtMost};
-ghost use Rattle.cayuga_run.specs.Taking.{BlamesReading, EndsAs};
+ghost use Rattle.cayuga_run.specs.Taking.{BlamesReading, EndsAs, failed_read};
 
 use crate::pieces::{PIECE, piece_size};
 use cay_host::{Host, Side};
@@ -40,6 +41,7 @@ pub fn read_side<H: Host>(
     ensures end { IfOk result (λ t. EndsAs t.end limit t.bytes.items side (H.told host.old) (H.told host.new)) }
     ensures taken { TakesAtMost (limit + 1) ((H.told host.old).left side) ((H.told host.new).left side) }
     ensures quiet { MatchResult result (λ t. BlamesReading t.end (H.told host.old) (H.told host.new)) (λ none. (H.told host.new).read_faults ≡ (H.told host.old).read_faults) }
+    ensures last { MatchResult result (λ t. FailedLast (failed_read t.end side) (H.told host.old) (H.told host.new)) (λ none. FailedLast None (H.told host.old) (H.told host.new)) }
     ensures same { SameButRead side (H.told host.old) (H.told host.new) }
 {
     let mut bytes = Vec::new(alloc);

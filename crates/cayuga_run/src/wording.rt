@@ -183,5 +183,6 @@ fn control_words(alloc: Global, why: &ControlFault) -> Result<String, Memory>
             let reader = reader.as_str();
             Ok(format!(in alloc; "{name} is read by {reader}")?)
         }
+        ControlFault::NotHere => Ok(format!(in alloc; "not in explain")?),
     }
 }

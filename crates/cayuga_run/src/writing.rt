@@ -11,6 +11,7 @@ ghost use Rattle.plan_text.specs.Plan.{plan_of};
 
 use crate::accepting::accept;
 use crate::status::Status;
+use catalogue::Catalogue;
 use cay_host::{Host, write_whole};
 use cel_print::print;
 use std::alloc::Global;
@@ -26,8 +27,14 @@ pub fn check<H: Host>(alloc: Global, host: &mut H, queries: &str) -> Status
 {
     match accept(alloc, host, queries) {
         Ok(catalogue) => match print(alloc, catalogue.file()) {
-            Ok(text) => write_text(host, text.as_str()),
-            Err(_) => Status::Memory,
+            Ok(text) => {
+                let_go(catalogue);
+                write_text(host, text.as_str())
+            }
+            Err(_) => {
+                let_go(catalogue);
+                Status::Memory
+            }
         },
         Err(status) => status,
     }
@@ -44,12 +51,21 @@ pub fn plan<H: Host>(alloc: Global, host: &mut H, queries: &str) -> Status
 {
     match accept(alloc, host, queries) {
         Ok(catalogue) => match plan_text::plan(alloc, &catalogue) {
-            Ok(text) => write_text(host, text.as_str()),
-            Err(_) => Status::Memory,
+            Ok(text) => {
+                let_go(catalogue);
+                write_text(host, text.as_str())
+            }
+            Err(_) => {
+                let_go(catalogue);
+                Status::Memory
+            }
         },
         Err(status) => status,
     }
 }
+
+// A catalogue is let go by one call, where each place would take its parts apart.
+fn let_go(_catalogue: Catalogue) {}
 
 /// Writes a text whole.
 pub fn write_text<H: Host>(host: &mut H, text: &str) -> Status

@@ -7,7 +7,7 @@ use Rattle.catalogue.specs.Filing.{most_bytes}
 use Rattle.cayuga_run.specs.Begun.{HasRead}
 use Rattle.cayuga_run.specs.Blaming.{BlamesHost}
 use Rattle.cayuga_run.specs.QueryFailing.{QueriesFail, TextFails}
-use Rattle.cayuga_run.proofs.BlamingLemmas.{blames_none}
+use Rattle.cayuga_run.proofs.BlamingLemmas.{blames_none, text_tells_none}
 use Rattle.cayuga_run.proofs.JudgementLemmas.{not_past}
 use Rattle.cayuga_run.proofs.RunLemmas.{judged_whole, judged_past, text_fails}
 use Rattle.cayuga_run.proofs.accepting.read_queries.Goals as goal
@@ -22,7 +22,7 @@ returns-in-Whole-clause-accepted g c =
     let same : (v : Verdict) → Judges bytes v → IfSome (before.left Queries) (λ t. Judges t v) =
     λ v judged. judged_whole (before.left Queries) (after.left Queries) bytes v (rw c.deref.ensures.value c.in-Ok.ensures.front) ends.1 judged in
     IfOk-weaker c.judge_text.result (λ catalogue. Accepts bytes (judged_in catalogue)) (λ catalogue. HasRead (judged_in catalogue) before after)
-    (λ catalogue accepts. record { accepts = same (Accepted (judged_in catalogue)) accepts; read_faults = rw c.in-Whole.is at c.in-Ok.ensures.quiet; read = ends.1 }) c.judge_text.ensures.accepted
+    (λ catalogue accepts. record { accepts = same (Accepted (judged_in catalogue)) accepts; read_faults = rw c.in-Whole.is at c.in-Ok.ensures.quiet; none_failed = rw c.in-Whole.is at c.in-Ok.ensures.last; read = ends.1 }) c.judge_text.ensures.accepted
 
 -- all of the queries was read, and not accepted
 pub returns-in-Whole-clause-fails : goal.returns-in-Whole-clause-fails
@@ -50,6 +50,7 @@ returns-clause-accepted g c =
     (λ catalogue accepts. record {
       accepts = same (Accepted (judged_in catalogue)) accepts;
       read_faults = rw c.in-More.is at c.in-Ok.ensures.quiet;
+      none_failed = rw c.in-More.is at c.in-Ok.ensures.last;
       read = absurd (not_past bytes (judged_in catalogue) more accepts);
     }) c.judge_text-in-More.ensures.accepted
 
@@ -69,13 +70,13 @@ pub returns-in-Whole-clause-blames : goal.returns-in-Whole-clause-blames
 returns-in-Whole-clause-blames g c =
     let same = c.read_side.ensures.same in
     IfErr-weaker c.judge_text.result (TextFails c.deref.result.now) (BlamesHost (g.H.Host.told c.args.host.now) (g.H.Host.told c.read_side.new.host))
-    (λ status f. blames_none status (record { attach = same.attach_faults; read = rw c.in-Whole.is at c.in-Ok.ensures.quiet; write = same.write_faults })) c.judge_text.ensures.fails
+    (λ status f. blames_none status (text_tells_none c.deref.result.now status f) (record { attach = same.attach_faults; read = rw c.in-Whole.is at c.in-Ok.ensures.quiet; write = same.write_faults; last = rw c.in-Whole.is at c.in-Ok.ensures.last })) c.judge_text.ensures.fails
 
 pub returns-clause-blames : goal.returns-clause-blames
 returns-clause-blames g c =
     let same = c.read_side.ensures.same in
     IfErr-weaker c.judge_text-in-More.result (TextFails c.deref-in-More.result.now) (BlamesHost (g.H.Host.told c.args.host.now) (g.H.Host.told c.read_side.new.host))
-    (λ status f. blames_none status (record { attach = same.attach_faults; read = rw c.in-More.is at c.in-Ok.ensures.quiet; write = same.write_faults })) c.judge_text-in-More.ensures.fails
+    (λ status f. blames_none status (text_tells_none c.deref-in-More.result.now status f) (record { attach = same.attach_faults; read = rw c.in-More.is at c.in-Ok.ensures.quiet; write = same.write_faults; last = rw c.in-More.is at c.in-Ok.ensures.last })) c.judge_text-in-More.ensures.fails
 
 -- a read failed
 pub returns-in-Failed-clause-blames : goal.returns-in-Failed-clause-blames
@@ -85,4 +86,5 @@ returns-in-Failed-clause-blames g c =
       attach = λ other. same.attach_faults;
       read = λ other. absurd (other Queries refl);
       write = λ other. same.write_faults;
+      last = rw c.in-Failed.is at c.in-Ok.ensures.last;
     }

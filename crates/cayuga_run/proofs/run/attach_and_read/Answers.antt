@@ -1,5 +1,4 @@
-use Rattle.std.proofs.Common.{◌≡◌, ◌∙◌, ap, refl, rules, subst, false, true, Result, Ok, Err}
-use Rattle.std.specs.Result.{OnErr, OnOk, is_err}
+use Rattle.std.proofs.Common.{◌∙◌, ap, refl, subst}
 use Rattle.cay_host.specs.declared.side.Side.TheVariants.{Events}
 use Rattle.catalogue.specs.Holding.{judged_in}
 use Rattle.courses.specs.QuerySet.{QuerySet, set_of}
@@ -8,21 +7,12 @@ use Rattle.cayuga_run.specs.Reports.{events_heard}
 use Rattle.cayuga_run.specs.StatsOutcome.{StatsOutcome}
 use Rattle.cayuga_run.specs.Works.{Run}
 use Rattle.cayuga_run.proofs.BlamingLemmas.{blames_after, none_blamed}
+use Rattle.cayuga_run.proofs.CallLemmas.{from_err, from_ok}
 use Rattle.cayuga_run.proofs.EndLemmas.{run_hears, run_tells}
 use Rattle.cayuga_run.proofs.OutcomeLemmas.{ready}
 use Rattle.cayuga_run.proofs.ReadingLemmas.{alone_then_writes, reads_before_events, reads_events, stops_then_writes}
 use Rattle.cayuga_run.proofs.TestsLemmas.{tests_events, tests_nothing, tests_then_writes}
 use Rattle.cayuga_run.proofs.run.attach_and_read.Goals as goal
-
--- what a call promises of its Ok, where it is no Err
-from_ok : {T E P : Type 0} (r : Result T E) → false ≡ is_err r → OnOk r P → P
-from_ok (Ok value) none holds = holds
-from_ok (Err fault) none holds = absurd cc
-
--- and of its Err, where it is one
-from_err : {T E P : Type 0} (r : Result T E) → true ≡ is_err r → OnErr r P → P
-from_err (Ok value) failed holds = absurd cc
-from_err (Err fault) failed holds = holds
 
 -- the events couldn't be attached
 pub returns-then-is_err-clause-blames : goal.returns-then-is_err-clause-blames
@@ -30,6 +20,7 @@ returns-then-is_err-clause-blames g c = record {
   attach = λ other. absurd (other Events refl);
   read = λ other. c.attach.ensures.same.read_faults;
   write = λ other. c.attach.ensures.same.write_faults;
+  last = from_err c.attach.result c.if-is_err.ensures.value c.attach.ensures.last_failed;
 }
 
 -- the events were heard, and the writing of the stats line is blamed
@@ -40,6 +31,7 @@ returns-then-hearing-clause-blames g c =
       attach = heard.attach ∙ from_ok c.attach.result c.if-is_err.ensures.value c.attach.ensures.quiet;
       read = heard.read ∙ c.attach.ensures.same.read_faults;
       write = heard.write ∙ c.attach.ensures.same.write_faults;
+      last = λ before. heard.last (from_ok c.attach.result c.if-is_err.ensures.value c.attach.ensures.none_failed);
     }) c.write_stats.ensures.blames
 
 -- the events were heard, and then the stats line was written
@@ -79,6 +71,7 @@ returns-in_default g c =
         attach = from_ok c.attach.result c.if-is_err.ensures.value c.attach.ensures.quiet;
         read = c.attach.ensures.same.read_faults;
         write = c.attach.ensures.same.write_faults;
+        last = λ before. from_ok c.attach.result c.if-is_err.ensures.value c.attach.ensures.none_failed;
       }) c.read_events.ensures.blames;
       reads = λ queries first accepted before.
           reads_events c.args.hearing.now.events.now c.args.hearing.now.limit accepted before (from_ok c.attach.result c.if-is_err.ensures.value c.attach.ensures.ok) c.read_events.ensures.alone c.read_events.ensures.stops;
@@ -88,7 +81,7 @@ returns-in_default g c =
 
 -- what was read of the events, and of the queries before
 pub returns-then-is_err-clause-reads : goal.returns-then-is_err-clause-reads
-returns-then-is_err-clause-reads g c = λ queries first accepted before. reads_before_events c.args.hearing.now.events.now c.args.hearing.now.limit accepted before (search rules) c.requires.free
+returns-then-is_err-clause-reads g c = λ queries first accepted before. reads_before_events c.args.hearing.now.events.now c.args.hearing.now.limit accepted before (from_err c.attach.result c.if-is_err.ensures.value c.attach.ensures.failed) c.requires.free
 
 pub returns-then-hearing-clause-reads : goal.returns-then-hearing-clause-reads
 returns-then-hearing-clause-reads g c = λ queries first accepted before.

@@ -1,10 +1,10 @@
-use Rattle.std.proofs.Common.{sym, subst}
+use Rattle.std.proofs.Common.{refl, sym, subst}
 use Rattle.catalogue.specs.Catalogued.{Catalogued}
 use Rattle.catalogue.specs.Holding.{judged_in}
 use Rattle.cayuga_run.specs.declared.status.Status.TheVariants.{Memory}
 use Rattle.cayuga_run.specs.Begun.{HasAccepted}
 use Rattle.cayuga_run.specs.Works.{Run}
-use Rattle.cayuga_run.proofs.BlamingLemmas.{blames_after, blames_none}
+use Rattle.cayuga_run.proofs.BlamingLemmas.{accepted_without_fault, blames_after, blames_none}
 use Rattle.cayuga_run.proofs.HeldLemmas.{stands_held}
 use Rattle.cayuga_run.proofs.ReadingLemmas.{reads_no_events}
 use Rattle.cayuga_run.proofs.RunLemmas.{memory_silent, run_fails}
@@ -23,9 +23,7 @@ pub returns-in_default-clause-outcome : goal.returns-in_default-clause-outcome
 returns-in_default-clause-outcome g c = memory_silent _ _ _ _ c.in-Ok.ensures.accepted.silent
 
 pub returns-in_default-clause-blames : goal.returns-in_default-clause-blames
-returns-in_default-clause-blames g c =
-    let accepted = c.in-Ok.ensures.accepted in
-    blames_none Memory (record { attach = accepted.attach_faults; read = accepted.read_faults; write = accepted.write_faults })
+returns-in_default-clause-blames g c = blames_none Memory refl (accepted_without_fault c.in-Ok.ensures.accepted)
 
 -- the session stands for what the text was judged to be
 pub attach_and_read-requires-clause-stands : goal.attach_and_read-requires-clause-stands
@@ -39,9 +37,7 @@ returns-clause-outcome g c =
     (subst (λ (k : Catalogued). HasAccepted c.args.queries.now (judged_in k) (told c.args.host.now) (told c.accept.new.host)) (sym c.in-Ok-make.ensures.queries) c.in-Ok.ensures.accepted)
 
 pub returns-clause-blames : goal.returns-clause-blames
-returns-clause-blames g c =
-    let accepted = c.in-Ok.ensures.accepted in
-    blames_after c.attach_and_read.result (record { attach = accepted.attach_faults; read = accepted.read_faults; write = accepted.write_faults }) c.attach_and_read.ensures.blames
+returns-clause-blames g c = blames_after c.attach_and_read.result (accepted_without_fault c.in-Ok.ensures.accepted) c.attach_and_read.ensures.blames
 
 -- what was read of the queries before
 pub returns-in-Err-clause-reads : goal.returns-in-Err-clause-reads
