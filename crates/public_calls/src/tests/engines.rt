@@ -47,13 +47,8 @@ fn take(
     Ok(())
 }
 
-// Closes the open epoch; where that is refused, it is open still, and is closed again.
-fn close<L: Ledger>(
-    rt: &impl Abort,
-    alloc: Global,
-    engine: &mut Engine,
-    blank: Blank,
-) -> Result<Batch, Memory>
+// Closes the open epoch; where one request is refused, it is open still, and is closed at the second try.
+fn close<L: Ledger>(rt: &impl Abort, alloc: Global, engine: &mut Engine, blank: Blank) -> Batch
     requires name { blank.name ≡ L.name }
     requires parts { blank.parts ≡ L.parts }
     requires some { 0 < blank.parts }
@@ -61,8 +56,11 @@ fn close<L: Ledger>(
     let mut steps = Steps::<L>::new(blank);
     assert!(rt; engine.open_time().is_some());
     match engine.close(alloc, &mut steps) {
-        Ok(batch) => Ok(batch),
-        Err(_) => engine.close(alloc, &mut steps),
+        Ok(batch) => batch,
+        Err(_) => match engine.close(alloc, &mut steps) {
+            Ok(batch) => batch,
+            Err(_) => panic!(rt; "refused once more"),
+        },
     }
 }
 
@@ -107,11 +105,10 @@ fn closes_with(
     engine: &mut Engine,
     stream: StreamId,
     rows: &[Row<'_>],
-) -> Result<(), Memory> {
-    let batch = close::<Quiet>(rt, alloc, engine, Blank::new(1))?;
+) {
+    let batch = close::<Quiet>(rt, alloc, engine, Blank::new(1));
     is_printed(rt, &batch, stream, rows);
     engine.take_back(batch);
-    Ok(())
 }
 
 // An event of Stock is out of order for what was seen, and comes back.
@@ -146,7 +143,7 @@ fn does(rt: &impl Abort, alloc: Global, engine: &mut Engine, deed: Deed<'_>) -> 
             take(rt, alloc, engine, stream, (number, from, at))?;
         }
         Deed::Late(from, at, seen) => comes_back(rt, alloc, engine, from, at, seen)?,
-        Deed::Close(stream, rows) => closes_with(rt, alloc, engine, stream, rows)?,
+        Deed::Close(stream, rows) => closes_with(rt, alloc, engine, stream, rows),
         Deed::Alive(count) => {
             engine.trim();
             assert_eq!(rt; engine.live(), count);
