@@ -9,9 +9,9 @@ use Rattle.std.proofs.lemmas.Str.{digit_value_digit}
 use Rattle.std.proofs.lemmas.Str.Parse.{IsNumeralModel, parse_digits}
 use Rattle.clap.specs.Walk.{Row, Text, all_of, first_of}
 use Rattle.command_line.specs.declared.job.Job.{Job}
-use Rattle.command_line.specs.declared.job.Job.TheVariants.{Check, Load, Plan}
+use Rattle.command_line.specs.declared.job.Job.TheVariants.{Check, Explain, Load, Plan}
 use Rattle.command_line.specs.Numbers.{are_digits, number_within}
-use Rattle.command_line.specs.Table.{IsInRange, has_stats, job_found, job_given, load_of, only, run_of}
+use Rattle.command_line.specs.Table.{IsInRange, explain_of, has_stats, job_found, job_given, load_of, only, run_of}
 
 -- a value that stands where a test is true
 chosen : (b : Bool) (value number : ℕ) → cond b (Some value) None ≡ Some number → (b ≡ true) × (value ≡ number)
@@ -67,22 +67,29 @@ plan-in_range : (value : Option Text) → IsInRange (option_map Plan value)
 plan-in_range None seed events e = absurd cc
 plan-in_range (Some queries) seed events e = absurd cc
 
+explain-in_range : (values : List Text) → IsInRange (explain_of values)
+explain-in_range [] seed events e = absurd cc
+explain-in_range (first ∷ []) seed events e = absurd cc
+explain-in_range (first ∷ second ∷ []) seed events e = absurd cc
+explain-in_range (first ∷ second ∷ third ∷ more) seed events e = absurd cc
+
 -- by the row of the table
-row-in_range : (run checks plans loads stats : Bool) (values : List Text)
-    → IsInRange (cond run (run_of stats values) (cond stats None (cond checks (option_map Check (only values)) (cond plans (option_map Plan (only values)) (cond loads (load_of values) None)))))
-row-in_range true checks plans loads stats values = run-in_range stats values
-row-in_range false checks plans loads true values = no-job
-row-in_range false true plans loads false values = check-in_range (only values)
-row-in_range false false true loads false values = plan-in_range (only values)
-row-in_range false false false true false values = load-in_range values
-row-in_range false false false false false values = no-job
+row-in_range : (run checks plans explains loads stats : Bool) (values : List Text)
+    → IsInRange (cond run (run_of stats values) (cond stats None (cond checks (option_map Check (only values)) (cond plans (option_map Plan (only values)) (cond explains (explain_of values) (cond loads (load_of values) None))))))
+row-in_range true checks plans explains loads stats values = run-in_range stats values
+row-in_range false checks plans explains loads true values = no-job
+row-in_range false true plans explains loads false values = check-in_range (only values)
+row-in_range false false true explains loads false values = plan-in_range (only values)
+row-in_range false false false true loads false values = explain-in_range values
+row-in_range false false false false true false values = load-in_range values
+row-in_range false false false false false false values = no-job
 
 given-in_range : (stats : Bool) (action : Option Text) (values : Option (List Text)) → IsInRange (job_given stats action values)
 given-in_range stats None None = no-job
 given-in_range stats None (Some values) = no-job
 given-in_range stats (Some action) None = no-job
 given-in_range stats (Some action) (Some values) =
-    row-in_range (bytes_eq action (codes "run")) (bytes_eq action (codes "check")) (bytes_eq action (codes "plan")) (bytes_eq action (codes "load")) stats values
+    row-in_range (bytes_eq action (codes "run")) (bytes_eq action (codes "check")) (bytes_eq action (codes "plan")) (bytes_eq action (codes "explain")) (bytes_eq action (codes "load")) stats values
 
 -- the job of what the command found
 pub found-in_range : {E : Type 0} (result : Result (Option Job) E) (rows : List Row) → IfOk result (λ asked. asked ≡ job_found rows) → IfOk result (λ asked. IsInRange asked)

@@ -9,7 +9,7 @@ use Rattle.clap.specs.Simple.{matches_of}
 use Rattle.clap.specs.Walk.{Row, Text, all_of, first_of}
 use Rattle.command_line.specs.Command.{the_command}
 use Rattle.command_line.specs.declared.job.Job.{Job}
-use Rattle.command_line.specs.declared.job.Job.TheVariants.{Check, Load, Plan, Run}
+use Rattle.command_line.specs.declared.job.Job.TheVariants.{Check, Explain, Load, Plan, Run}
 use Rattle.command_line.specs.Numbers.{number_within}
 
 -- the words as bytes
@@ -26,19 +26,25 @@ abbrev pub run_of : Bool → List Text → Option Job
 run_of stats (queries ∷ events ∷ []) = Some (Run queries events stats)
 run_of stats values = None
 
+-- an explaining has two values, its queries and its events
+abbrev pub explain_of : List Text → Option Job
+explain_of (queries ∷ events ∷ []) = Some (Explain queries events)
+explain_of values = None
+
 -- a load has two values, its seed below 2^31 and its number of events from 1 to 200,000
 abbrev pub load_of : List Text → Option Job
 load_of (seed ∷ events ∷ []) = option_and_then (λ s. option_map (λ n. Load s n) (number_within 1 200000 events)) (number_within 0 2147483647 seed)
 load_of values = None
 
--- the table of the jobs: `run QUERIES EVENTS`, with which the flag may go, `check QUERIES`, `plan QUERIES` and `load SEED N`
+-- the table of the jobs: `run QUERIES EVENTS`, with which the flag may go, `check QUERIES`, `plan QUERIES`, `explain QUERIES EVENTS` and `load SEED N`
 abbrev pub job_by : Bool → Text → List Text → Option Job
 job_by stats action values =
     if bytes_eq action (codes "run") then run_of stats values
     else (if stats then None
     else (if bytes_eq action (codes "check") then option_map Check (only values)
     else (if bytes_eq action (codes "plan") then option_map Plan (only values)
-    else (if bytes_eq action (codes "load") then load_of values else None))))
+    else (if bytes_eq action (codes "explain") then explain_of values
+    else (if bytes_eq action (codes "load") then load_of values else None)))))
 
 -- the job of a flag, an action and its values, which needs both an action and values
 abbrev pub job_given : Bool → Option Text → Option (List Text) → Option Job

@@ -19,6 +19,11 @@ pub enum Job {
     Plan {
         queries: Text,
     },
+    /// Writes each result of the queries over the events with the event lines that made it: `explain QUERIES EVENTS`.
+    Explain {
+        queries: Text,
+        events: Text,
+    },
     /// Runs the generator's texts, whose events are made from the seed, and writes one line of numbers: `load SEED N`.
     Load {
         seed: u64,

@@ -4,7 +4,7 @@ ghost use Rattle.std.specs.Option.{option_map_or};
 ghost use Rattle.std.specs.Str.{bytes_eq};
 ghost use Rattle.clap.specs.Matches.{found_of};
 ghost use Rattle.clap.specs.Walk.{rows_of};
-ghost use Rattle.command_line.specs.Table.{job, job_by, IsInRange, job_found, job_given, load_of, only, run_of, texts_of};
+ghost use Rattle.command_line.specs.Table.{job, job_by, IsInRange, explain_of, job_found, job_given, load_of, only, run_of, texts_of};
 
 use crate::command::matches_in;
 use crate::job::Job;
@@ -75,6 +75,8 @@ fn job_by(alloc: Global, stats: bool, action: &str, values: &[&str]) -> Result<O
         Ok(only(alloc, values)?.map(|queries| Job::Check { queries }))
     } else if action == "plan" {
         Ok(only(alloc, values)?.map(|queries| Job::Plan { queries }))
+    } else if action == "explain" {
+        explain(alloc, values)
     } else if action == "load" {
         Ok(load(values))
     } else {
@@ -98,6 +100,18 @@ fn run(alloc: Global, stats: bool, values: &[&str]) -> Result<Option<Job>, Memor
         }
         _ => Ok(None),
     }
+}
+
+// The explaining of two values.
+fn explain(alloc: Global, values: &[&str]) -> Result<Option<Job>, Memory>
+    ensures { IfOk result (λ asked. asked ≡ explain_of (texts_of values.now)) }
+{
+    let [queries, events] = values else {
+        return Ok(None);
+    };
+    let queries = Text::make(alloc, queries)?;
+    let events = Text::make(alloc, events)?;
+    Ok(Some(Job::Explain { queries, events }))
 }
 
 // The load of two values.
