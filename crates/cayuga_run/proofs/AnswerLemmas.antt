@@ -6,12 +6,14 @@ use Rattle.cayuga_run.specs.declared.status.Status.{Status}
 use Rattle.cayuga_run.specs.declared.status.Status.TheVariants.{Done, Usage, BadQuery, Cycle, BadEvent, OutOfOrder, AttachFault, ReadFault, WriteFault, TooMuch, Memory, BadControl}
 use Rattle.cayuga_run.specs.Answers.{Answers}
 use Rattle.cayuga_run.specs.Blaming.{BlamesHost}
+use Rattle.cayuga_run.specs.ExplainOutcome.{ExplainOutcome}
 use Rattle.cayuga_run.specs.LoadOutcome.{LoadOutcome}
 use Rattle.cayuga_run.specs.Outcome.{DidNothing, Outcome}
 use Rattle.cayuga_run.specs.Reading.{Reads}
 use Rattle.cayuga_run.specs.RunOutcome.{RunOutcome}
-use Rattle.cayuga_run.specs.Works.{Work, Nothing, Reports, Writes, Loads, has_side}
+use Rattle.cayuga_run.specs.Works.{Work, Nothing, Reports, Writes, Loads, Explains, has_side}
 use Rattle.cayuga_run.specs.WritingOutcome.{WritingOutcome}
+use Rattle.cayuga_run.proofs.ExplainAnswers.{explain_complete_by, explain_decided, explain_refused_by}
 use Rattle.cayuga_run.proofs.LoadAnswers.{load_complete_by, load_decided, load_refused_by}
 use Rattle.cayuga_run.proofs.RunAnswers.{complete_by, decided, refused_by}
 use Rattle.cayuga_run.proofs.WritingAnswers.{writing_complete_by, writing_decided, writing_refused_by}
@@ -136,4 +138,25 @@ answers (Loads load) limit old new status o blames reads sides = record {
   refused = load_refused_by load old new status o;
   determined = load_decided load old new status o;
   complete = load_complete_by load old new status o;
+}
+answers (Explains explaining) limit old new status o blames reads sides = record {
+  usage = λ other. (λ e. absurd (subst (ExplainOutcome explaining limit old new) e o), λ e. cc);
+  usage_does = λ e. absurd (subst (ExplainOutcome explaining limit old new) e o);
+  done = λ e. subst (ExplainOutcome explaining limit old new) e o;
+  bad_query = λ line why e. subst (ExplainOutcome explaining limit old new) e o;
+  cycle = λ names e. subst (ExplainOutcome explaining limit old new) e o;
+  bad_event = λ line why e. subst (ExplainOutcome explaining limit old new) e o;
+  bad_control = λ line why e. subst (ExplainOutcome explaining limit old new) e o;
+  out_of_order = λ line at seen e. subst (ExplainOutcome explaining limit old new) e o;
+  too_much = λ most e. subst (ExplainOutcome explaining limit old new) e o;
+  attach_fault = λ side e. subst (ExplainOutcome explaining limit old new) e o;
+  read_fault = λ side e. subst (ExplainOutcome explaining limit old new) e o;
+  write_fault = λ e. subst (ExplainOutcome explaining limit old new) e o;
+  memory = λ e. subst (ExplainOutcome explaining limit old new) e o;
+  blames = blames;
+  reads = reads;
+  sides = sides;
+  refused = explain_refused_by explaining limit old new status o;
+  determined = explain_decided explaining limit old new status o;
+  complete = explain_complete_by explaining limit old new status o;
 }

@@ -48,7 +48,7 @@ Wrote-before : {bs : List ℕ} {old mid new : Told} → Wrote bs old mid → Kee
 Wrote-before w s = record { written = s.written ∙ w.written; lines = s.lines ∙ w.lines }
 
 -- nothing is told anew
-same_told : (told : Told) → SameButOutput told told
+pub same_told : (told : Told) → SameButOutput told told
 same_told told = record { later = omega arith; attach_faults = refl; read_faults = refl; attached = refl; files = refl; left = refl }
 
 -- all events were heard, and then at most something was written

@@ -3,7 +3,10 @@ pub mod BlamingLemmas
 pub mod CallLemmas
 pub mod EndLemmas
 pub mod GrowingLemmas
+pub mod ExplainAnswers
+pub mod ExplainLemmas
 pub mod HearingLemmas
+pub mod HereLemmas
 pub mod HeldLemmas
 pub mod JudgementLemmas
 pub mod LoadAnswers

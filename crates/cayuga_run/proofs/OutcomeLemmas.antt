@@ -95,7 +95,7 @@ at_end None rest h e = cc
 at_end (Some r) rest h e = cc
 
 -- the front of two texts that are joined
-take_of_both : (n : ℕ) (xs ys : List ℕ) → take n (xs ++ ys) ≡ take n xs ++ take (n - length xs) ys
+pub take_of_both : (n : ℕ) (xs ys : List ℕ) → take n (xs ++ ys) ≡ take n xs ++ take (n - length xs) ys
 take_of_both n xs ys = by (nat_le (length xs) n) refl
   where
     by : (b : Bool) → nat_le (length xs) n ≡ b → take n (xs ++ ys) ≡ take n xs ++ take (n - length xs) ys

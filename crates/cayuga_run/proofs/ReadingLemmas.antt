@@ -60,7 +60,7 @@ reads_queries queries old mid new has kept takes = record {
 }
 
 -- no more is read of the queries
-queries_then : {queries : List ℕ} {a b c : Told} → ReadsQueries queries a b → c.attached Queries ≡ b.attached Queries → c.left Queries ≡ b.left Queries → ReadsQueries queries a c
+pub queries_then : {queries : List ℕ} {a b c : Told} → ReadsQueries queries a b → c.attached Queries ≡ b.attached Queries → c.left Queries ≡ b.left Queries → ReadsQueries queries a c
 queries_then {queries} {a} {b} {c} r attached left = record {
   unattached = λ e. left ∙ r.unattached (sym attached ∙ e);
   attached = λ e. subst (TakesAtMost 1048577 (file_of queries a.files)) (sym left) (r.attached (sym attached ∙ e));

@@ -19,17 +19,17 @@ use Rattle.cayuga_run.specs.Works.{Run}
 use Rattle.cayuga_run.proofs.RefusedLemmas.{Answered, accepted_answers, circle_text, for_some, free_answers, no_rise, refused_text}
 
 -- a claim on both files from another
-of_files : (a b : Option (List ℕ)) (P Q : List ℕ → List ℕ → Type 0) → ((q e : List ℕ) → P q e → Q q e) → IfSome a (λ q. IfSome b (P q)) → IfSome a (λ q. IfSome b (Q q))
+pub of_files : (a b : Option (List ℕ)) (P Q : List ℕ → List ℕ → Type 0) → ((q e : List ℕ) → P q e → Q q e) → IfSome a (λ q. IfSome b (P q)) → IfSome a (λ q. IfSome b (Q q))
 of_files None b P Q f h = tt
 of_files (Some q) None P Q f h = tt
 of_files (Some q) (Some e) P Q f h = f q e h
 
-of_queries : (a b : Option (List ℕ)) (P : List ℕ → Type 0) (Q : List ℕ → List ℕ → Type 0) → ((q e : List ℕ) → P q → Q q e) → IfSome a P → IfSome a (λ q. IfSome b (Q q))
+pub of_queries : (a b : Option (List ℕ)) (P : List ℕ → Type 0) (Q : List ℕ → List ℕ → Type 0) → ((q e : List ℕ) → P q → Q q e) → IfSome a P → IfSome a (λ q. IfSome b (Q q))
 of_queries None b P Q f h = tt
 of_queries (Some q) None P Q f h = tt
 of_queries (Some q) (Some e) P Q f h = f q e h
 
-of_none : (a b : Option (List ℕ)) (Q : List ℕ → List ℕ → Type 0) → ((q e : List ℕ) → Q q e) → IfSome a (λ q. IfSome b (Q q))
+pub of_none : (a b : Option (List ℕ)) (Q : List ℕ → List ℕ → Type 0) → ((q e : List ℕ) → Q q e) → IfSome a (λ q. IfSome b (Q q))
 of_none None b Q f = tt
 of_none (Some q) None Q f = tt
 of_none (Some q) (Some e) Q f = f q e
@@ -39,10 +39,10 @@ asked : (status : Status) (text : List ℕ) (limit : ℕ) (events : List ℕ) (P
     → ((c : Judged) → P c → status ≡ expected_after limit (refused_in (set_of c) (take limit events) (is_whole limit events)) (is_whole limit events)) → IsAcceptedWith text P → IsExpected limit text events status
 asked status text limit events P f h = record { verdict = Accepted h.judged; judged = h.accepts; value = f h.judged h.holds }
 
-whole_is : (limit : ℕ) (events : List ℕ) → length events ≤ limit → is_whole limit events ≡ true
+pub whole_is : (limit : ℕ) (events : List ℕ) → length events ≤ limit → is_whole limit events ≡ true
 whole_is limit events few = le-leb (length events) limit few
 
-long_is : (limit : ℕ) (events : List ℕ) → limit < length events → is_whole limit events ≡ false
+pub long_is : (limit : ℕ) (events : List ℕ) → limit < length events → is_whole limit events ≡ false
 long_is limit events long = grind (arith, nat_tests, long)
 
 -- the status, where the texts decide it
@@ -83,7 +83,7 @@ both_told run (Some files) P there h = cases (find_file run.queries files) (find
     cases (Some q) (Some e) there h = (e, h)
 
 -- both files are there and the query text is accepted
-accepted_files : (run : Run) (old : Told) (status : Status) (P : List ℕ → Judged → Type 0) → AreThere run old
+pub accepted_files : (run : Run) (old : Told) (status : Status) (P : List ℕ → Judged → Type 0) → AreThere run old
     → OfFiles run old (λ q e. IsAcceptedWith q (P e)) → OfQueries run.queries old (Answered status)
 accepted_files run old status P there h =
     for_some (file_of run.queries old.files) (λ q. (e : List ℕ) × IsAcceptedWith q (P e)) (Answered status)

@@ -7,7 +7,8 @@ use Rattle.cay_host.specs.Output.{KeepsOutput}
 use Rattle.cay_host.specs.Told.{Told}
 use Rattle.catalogue.specs.Judgement.{Accepts, Judged}
 use Rattle.cayuga_run.specs.declared.status.Status.{Status}
-use Rattle.cayuga_run.specs.Reading.{ReadsBoth, ReadsQueries}
+use Rattle.cayuga_run.specs.ExplainOutcome.{ExplainOutcome}
+use Rattle.cayuga_run.specs.Reading.{ReadsBoth, ReadsQueries, ReadsToExplain}
 use Rattle.cayuga_run.specs.Refusing.{OfQueries}
 use Rattle.cayuga_run.specs.RunOutcome.{RunOutcome}
 use Rattle.cayuga_run.specs.Tests.{TestsOfRun}
@@ -44,6 +45,17 @@ abbrev pub EndsReading : Judged → List ℕ → ℕ → Told → Told → Type 
 EndsReading judged events limit before after =
     (queries : List ℕ) (first : Told) → HasAccepted queries judged first before → ReadsQueries queries first before
     → ReadsBoth queries events limit first after
+
+-- how an explaining ends, whatever queries were accepted before its events are attached
+abbrev pub EndsExplaining : Judged → List ℕ → ℕ → Told → Told → Status → Type 0
+EndsExplaining judged events limit before after status =
+    (queries : List ℕ) (first : Told) → HasAccepted queries judged first before → ExplainOutcome (record { queries = queries; events = events }) limit first after status
+
+-- how much of both files is then read
+abbrev pub EndsReadingHere : Judged → List ℕ → ℕ → Told → Told → Type 0
+EndsReadingHere judged events limit before after =
+    (queries : List ℕ) (first : Told) → HasAccepted queries judged first before → ReadsQueries queries first before
+    → ReadsToExplain queries events limit first after
 
 -- how many conditions are then tested at most
 abbrev pub EndsTests : Judged → List ℕ → ℕ → Told → Told → ℕ → ℕ → Type 0

@@ -9,6 +9,7 @@ use Rattle.courses.specs.Reports.{refused_in}
 use Rattle.cayuga_run.specs.declared.status.Status.{Status}
 use Rattle.cayuga_run.specs.declared.status.Status.TheVariants.{Done, BadQuery, Cycle, BadEvent, OutOfOrder, AttachFault, ReadFault, WriteFault, TooMuch, Memory, BadControl}
 use Rattle.catalogue.specs.Judgement.{Verdict, Accepted, Refused, Circle, Judges}
+use Rattle.cayuga_run.specs.Here.{refused_here}
 use Rattle.cayuga_run.specs.RunOutcome.{is_whole}
 
 -- a refused line decides; else whether the event text is within the limit
@@ -34,6 +35,18 @@ pub record IsExpected (limit : ℕ) (queries events : List ℕ) (status : Status
 -- so do they where all of the event text is within the limit
 abbrev pub IsExpectedWhole : List ℕ → List ℕ → Status → Type 0
 IsExpectedWhole queries events status = IsExpected (length events) queries events status
+
+-- where results are explained no control line is taken
+abbrev pub expected_explaining : Verdict → ℕ → List ℕ → Status
+expected_explaining (Refused line why) limit events = BadQuery line why
+expected_explaining (Circle names) limit events = Cycle names
+expected_explaining (Accepted judged) limit events = expected_after limit (refused_here judged (take limit events) (is_whole limit events)) (is_whole limit events)
+
+-- these texts ask for the status where results are explained
+pub record IsExpectedExplaining (limit : ℕ) (queries events : List ℕ) (status : Status) : Type 0 where
+  pub verdict : Verdict
+  pub judged : Judges queries verdict
+  pub value : status ≡ expected_explaining verdict limit events
 
 -- they ask for at most one
 abbrev pub OneStatus : Type 0

@@ -3,7 +3,10 @@ pub mod Answers
 pub mod Begun
 pub mod Blaming
 pub mod Expected
+pub mod ExplainOutcome
+pub mod HearingHere
 pub mod HearingOutcome
+pub mod Here
 pub mod LoadHearing
 pub mod LoadOutcome
 pub mod Number

@@ -1,5 +1,5 @@
 -- How many conditions a job tests at most.
-use Rattle.std.specs.Prelude.{◌≡◌, ◌≤◌, ◌⊎◌, ◌+◌, ℕ, List, [], Bool, true, false, length, take, Option, Some, IfSome}
+use Rattle.std.specs.Prelude.{⊤, ◌≡◌, ◌≤◌, ◌⊎◌, ◌+◌, ℕ, List, [], Bool, true, false, length, take, Option, Some, IfSome}
 use Rattle.std.specs.Io.KnownBytes.{prepend_known}
 use Rattle.cay_host.specs.declared.side.Side.TheVariants.{Events}
 use Rattle.cay_host.specs.Files.{file_of}
@@ -42,7 +42,7 @@ TestsOfText set text old new = (rest : List ℕ) × TestsOfTaken set (length tex
 abbrev pub TestsOfLoad : Load → ℕ → ℕ → Type 0
 TestsOfLoad load old new = (new ≡ old) ⊎ IsAcceptedWith (query_text load.events) (λ judged. TestsOfText (set_of judged) (event_text load.seed load.events) old new)
 
--- how many conditions were tested at most, by the work: none where nothing is run
+-- how many conditions were tested at most, by the work: none where nothing is run; of an explaining nothing is said
 abbrev pub StaysWithinWork : Work → ℕ → Told → Told → ℕ → ℕ → Type 0
 StaysWithinWork work limit before after old new =
-    ByWork work (new ≡ old) (λ run. TestsOfRun run.queries run.events limit before after old new) (λ writing. new ≡ old) (λ load. TestsOfLoad load old new)
+    ByWork work (new ≡ old) (λ run. TestsOfRun run.queries run.events limit before after old new) (λ writing. new ≡ old) (λ load. TestsOfLoad load old new) (λ explaining. ⊤)

@@ -5,6 +5,8 @@
 
 mod accepting;
 mod events;
+mod explain;
+mod hearing;
 mod laws;
 mod load;
 mod pieces;

@@ -10,6 +10,7 @@ ghost use Rattle.cayuga_run.specs.Reading.{Reads};
 ghost use Rattle.cayuga_run.specs.Tests.{StaysWithinWork};
 ghost use Rattle.cayuga_run.specs.Works.{has_side, work_of};
 
+use crate::explain::explain;
 use crate::load::load;
 use crate::run::{Hearing, run};
 use crate::status::Status;
@@ -25,6 +26,7 @@ const MOST_EVENT_BYTES: u64 = 1 << 40;
 /// of the queries over the events, of which at most 2^40 bytes are taken, and with the flag a line of stats
 /// behind it. `check QUERIES` writes the canonical text of the queries, and `plan QUERIES` what each of them
 /// publishes and reads. `load SEED N` runs the generator's texts and writes one line of numbers.
+/// `explain QUERIES EVENTS` writes each result with the event lines that made it, of an event text with no control lines.
 pub fn cayuga<H: Host, L: Ledger>(
     alloc: Global,
     host: &mut H,
@@ -107,5 +109,8 @@ fn do_job<H: Host, L: Ledger>(
         Job::Check { queries } => check(alloc, host, queries.as_str()),
         Job::Plan { queries } => plan(alloc, host, queries.as_str()),
         Job::Load { seed, events } => load(alloc, host, *seed, *events, steps),
+        Job::Explain { queries, events } => {
+            explain(alloc, host, queries.as_str(), events.as_str(), limit, steps)
+        }
     }
 }
