@@ -24,7 +24,6 @@ pub struct Agg {
 pub type Aggs = List<Agg>;
 
 /// A source: `A NEXT {$2.x = $1.x} B` is `Next` of its condition and the names `A` and `B`.
-#[derive(Drop)]
 pub enum Source {
     Name(Text),
     Filter(RawPred, Box<Source>),
@@ -34,4 +33,18 @@ pub enum Source {
     Next(RawPred, Box<Source>, Box<Source>),
     /// The first condition chooses the next event, the second one says whether the iteration goes on.
     Fold(RawPred, RawPred, Aggs, Box<Source>, Box<Source>),
+}
+
+// As of a scalar.
+impl Drop for Source {
+    fn drop(self) {
+        match self {
+            Source::Name(_name) => {}
+            Source::Filter(_pred, _source) => {}
+            Source::Select(_items, _source) => {}
+            Source::Union(_left, _right) => {}
+            Source::Next(_pred, _left, _right) => {}
+            Source::Fold(_next, _going_on, _aggs, _left, _right) => {}
+        }
+    }
 }

@@ -13,7 +13,6 @@ pub struct Attr {
 pub type Attrs = List<Attr>;
 
 /// A statement: `STREAM name (attrs)`, or `SELECT items FROM source PUBLISH name`.
-#[derive(Drop)]
 pub enum Statement {
     Stream {
         name: Text,
@@ -24,4 +23,21 @@ pub enum Statement {
         source: Source,
         name: Text,
     },
+}
+
+// As of a scalar.
+impl Drop for Statement {
+    fn drop(self) {
+        match self {
+            Statement::Stream {
+                name: _name,
+                attrs: _attrs,
+            } => {}
+            Statement::Query {
+                items: _items,
+                source: _source,
+                name: _name,
+            } => {}
+        }
+    }
 }

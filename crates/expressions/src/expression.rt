@@ -7,7 +7,6 @@ use scalar_expr::{Conj, Map};
 ///
 /// The first condition of `Fold` chooses the next events, the second says whether the iteration goes
 /// on, and the projection gives the new binding.
-#[derive(Drop)]
 pub enum Expr {
     Read(StreamId),
     Filter(Conj, Box<Expr>),
@@ -15,4 +14,18 @@ pub enum Expr {
     Union(Box<Expr>, Box<Expr>),
     Next(Conj, Box<Expr>, Box<Expr>),
     Fold(Conj, Conj, Map, Box<Expr>, Box<Expr>),
+}
+
+// One call lets an expression go, where a derive would take it apart at each place.
+impl Drop for Expr {
+    fn drop(self) {
+        match self {
+            Expr::Read(_) => {}
+            Expr::Filter(_condition, _inner) => {}
+            Expr::Select(_projection, _inner) => {}
+            Expr::Union(_left, _right) => {}
+            Expr::Next(_condition, _left, _right) => {}
+            Expr::Fold(_choose, _on, _projection, _left, _right) => {}
+        }
+    }
 }

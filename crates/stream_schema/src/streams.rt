@@ -12,12 +12,22 @@ use std::marker::Model;
 /// The streams by name, each with its schema. A stream's number is its place in the order in which they
 /// were added, from 0. A retired stream keeps its number and its schema, and has no name: contracts see as its name
 /// one that no text has. A hidden stream has none from the start.
-#[derive(Drop)]
 pub struct Streams {
     alloc: Global,
     streams: List<Stream>,
     // For each name its stream.
     numbers: IndexMap<String, StreamId>,
+}
+
+// A caller that lets streams go makes one call, where a derive would take each part apart at each place.
+impl Drop for Streams {
+    fn drop(self) {
+        let Streams {
+            alloc: _,
+            streams: _streams,
+            numbers: _numbers,
+        } = self;
+    }
 }
 
 impl Model for Streams {

@@ -16,12 +16,22 @@ use std::marker::Model;
 ///
 /// Each query has a turn in each of both orders, which it keeps, and which no other is given later. So a query leaves in
 /// steps as the logarithm of how many there are, and in as many a number or a place is found, which no clause says.
-#[derive(Drop)]
 pub struct WorkOrder {
     by_place: LongList<Turn>,
     by_number: LongList<Turn>,
     // above all turns of both orders
     next: usize,
+}
+
+// A caller that lets an order go makes one call, where a derive would take each part apart at each place.
+impl Drop for WorkOrder {
+    fn drop(self) {
+        let WorkOrder {
+            by_place: _by_place,
+            by_number: _by_number,
+            next: _,
+        } = self;
+    }
 }
 
 impl Model for WorkOrder {

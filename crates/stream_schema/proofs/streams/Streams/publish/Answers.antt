@@ -1,9 +1,9 @@
 use Rattle.std.proofs.Common.{rules, [], ◌∷◌, ◌++◌, ◌+◌, ◌≡◌, ◌∙◌, ap, sym, false, length, append_assoc, arith}
-use Rattle.std.specs.Prelude.{Some, List, ℕ, replicate, string_bytes}
+use Rattle.std.specs.Prelude.{Some, List, string_bytes}
 use Rattle.std.proofs.lemmas.List.{length_push}
 use Rattle.std.proofs.lemmas.Map.Text.{hash_map_updates_text}
 use Rattle.stream_schema.specs.Streams.{Entry, hidden_entries, number_of}
-use Rattle.stream_schema.specs.Table.{streams_of, unnamed}
+use Rattle.stream_schema.specs.Table.{streams_of}
 use Rattle.stream_schema.specs.declared.streams.Stream.{Stream}
 use Rattle.stream_schema.proofs.HiddenLemmas.{distinct-unnamed, number_of-unnamed, streams_of-unnamed}
 use Rattle.stream_schema.proofs.RetiredLemmas.{distinct-push, number_of-push}
