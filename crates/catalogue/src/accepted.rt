@@ -25,7 +25,6 @@ use work_order::WorkOrder;
 /// Queries that stand in order: the statements that they were loaded from, the streams that these declare, those that
 /// the queries publish, hidden ones too, and the queries, typed, with their lines. A query's number is its place among
 /// those that are there, from 0; one that was added stands behind those that were there.
-#[derive(Drop)]
 pub struct Catalogue {
     file: File,
     declared: usize,
@@ -38,6 +37,22 @@ pub struct Catalogue {
     pub(crate) size: usize,
     // For each stream by number how many reads of it the expressions have; none behind the last one.
     pub(crate) reads: Numbers,
+}
+
+// A caller that lets a catalogue go makes one call, where a derive would take each part apart at each place.
+impl Drop for Catalogue {
+    fn drop(self) {
+        let Catalogue {
+            file: _file,
+            declared: _,
+            streams: _streams,
+            work: _work,
+            chains: _chains,
+            next_end: _,
+            size: _,
+            reads: _reads,
+        } = self;
+    }
 }
 
 impl Model for Catalogue {

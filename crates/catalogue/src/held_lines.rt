@@ -13,12 +13,23 @@ use std::alloc::Global;
 
 /// The automaton lines of queries in the order of work, for each of them the number of its end, how many lines and streams
 /// each query has, and the layout of the streams. Those of one query leave without a step for each of the others.
-#[derive(Drop)]
 pub struct HeldLines {
     pub lines: LongList<Line>,
     pub ends: LongNumbers,
     pub shares: Shares,
     pub layout: Layout,
+}
+
+// As of a catalogue.
+impl Drop for HeldLines {
+    fn drop(self) {
+        let HeldLines {
+            lines: _lines,
+            ends: _ends,
+            shares: _shares,
+            layout: _layout,
+        } = self;
+    }
 }
 
 /// How many lines, ends and shares there were, and how many streams in the layout, before a query came.
@@ -35,14 +46,16 @@ impl HeldLines {
     pub fn of(alloc: Global, chains: Chains, shares: Shares) -> Result<HeldLines, Memory>
         ensures { IfOk result (λ held. held ≡ first_lines chains shares) }
     {
-        let ends = LongList::of(alloc, numbers_below(alloc, chains.lines.len())?)?;
-        let lines = LongList::of(alloc, chains.lines)?;
-        Ok(HeldLines {
-            lines,
-            ends,
+        let lines = chains.lines;
+        let mut held = HeldLines {
+            lines: LongList::new(alloc),
+            ends: LongList::new(alloc),
             shares,
             layout: chains.layout,
-        })
+        };
+        held.ends = LongList::of(alloc, numbers_below(alloc, lines.len())?)?;
+        held.lines = LongList::of(alloc, lines)?;
+        Ok(held)
     }
 
     /// How much there is.

@@ -10,11 +10,21 @@ use std::alloc::Global;
 use work_order::WorkOrder;
 
 /// The numbers of queries in the order of work, and in this order what the queries publish, and their expressions.
-#[derive(Drop)]
 pub struct HeldQueries {
     pub order: WorkOrder,
     pub published: LongList<Published>,
     pub expressions: LongList<Expr>,
+}
+
+// As of a catalogue.
+impl Drop for HeldQueries {
+    fn drop(self) {
+        let HeldQueries {
+            order: _order,
+            published: _published,
+            expressions: _expressions,
+        } = self;
+    }
 }
 
 impl HeldQueries {

@@ -59,7 +59,10 @@ pub fn lay_out(alloc: Global, file: &File, typed: &Typed) -> Result<Laid, Memory
     ensures { IfOk result (AreLaid (parts_of file.now typed.now.streams typed.now.order typed.now.expressions)) }
 {
     let declared = file.size() - typed.order.len();
+    let order = WorkOrder::of(alloc, &typed.order)?;
     let places = places_in(alloc, &typed.order)?;
+    let published = number_all(alloc, declared, &typed.expressions)?;
+    let reads = tally_all(alloc, &typed.expressions)?;
     let chains = chains_of(
         alloc,
         file,
@@ -68,10 +71,7 @@ pub fn lay_out(alloc: Global, file: &File, typed: &Typed) -> Result<Laid, Memory
         &typed.expressions,
         places.as_slice(),
     )?;
-    let order = WorkOrder::of(alloc, &typed.order)?;
-    let published = number_all(alloc, declared, &typed.expressions)?;
     let shares = share_all(alloc, &published, &typed.expressions)?;
-    let reads = tally_all(alloc, &typed.expressions)?;
     Ok(Laid {
         declared,
         order,
@@ -91,10 +91,11 @@ pub fn hold(alloc: Global, many: usize, typed: Typed, laid: Laid) -> Result<Held
 {
     let next_end = laid.chains.lines.len();
     let size = size_of(laid.chains.lines.as_slice());
-    let mut streams = typed.streams;
-    hide_up_to(&mut streams, many, laid.chains.layout.kinds.len())?;
+    let kinds = laid.chains.layout.kinds.len();
     let chains = HeldLines::of(alloc, laid.chains, laid.shares)?;
     let work = HeldQueries::of(alloc, laid.order, laid.published, typed.expressions)?;
+    let mut streams = typed.streams;
+    hide_up_to(&mut streams, many, kinds)?;
     Ok(Held {
         declared: laid.declared,
         streams,

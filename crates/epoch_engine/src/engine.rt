@@ -28,7 +28,6 @@ use std::marker::Model;
 use steps::{Ledger, Steps};
 
 /// The bindings that wait at the states of a network, and the tuples of the open epoch.
-#[derive(Drop)]
 pub struct Engine {
     pub(crate) plan: Plan,
     pub(crate) holdings: Holdings,
@@ -36,6 +35,19 @@ pub struct Engine {
     // None while a batch is lent, after a closing was refused, and where memory was wanting.
     pub(crate) room: Option<Box<Room>>,
     closed_time: Option<u64>,
+}
+
+// A caller that lets an engine go makes one call, where a derive would take each part apart at each place.
+impl Drop for Engine {
+    fn drop(self) {
+        let Engine {
+            plan: _plan,
+            holdings: _holdings,
+            epoch: _epoch,
+            room: _room,
+            closed_time: _,
+        } = self;
+    }
 }
 
 impl Model for Engine {
