@@ -1,4 +1,4 @@
--- How many lines expressions have, whatever streams they publish, and whether they read a stream. No public clause cites this.
+-- How many lines expressions have, whatever streams they publish, and whether they read a stream.
 use Rattle.std.specs.Prelude.{◌==◌, ◌||◌, ℕ, ◌+◌, Bool, List, sum_by}
 use Rattle.expressions.specs.declared.expression.Expr.{Expr}
 use Rattle.expressions.specs.Views.{ex_of}

@@ -1,5 +1,4 @@
--- Reading predicates from left to right. No public clause cites this module. The number bounds how
--- deep the calls go.
+-- Reading predicates from left to right, of which statements are read. The number bounds how deep the calls go.
 use Rattle.std.specs.Prelude.{ℕ, zero, suc, List, ◌∷◌, None, if◌then◌else◌}
 use Rattle.event_types.specs.declared.comparison.Cmp.{Cmp}
 use Rattle.cel_grammar.specs.Symbols.{Symbol}

@@ -1,5 +1,4 @@
--- Reading scalars from left to right. No public clause cites this module. The number bounds how
--- deep the calls go.
+-- Reading scalars from left to right, of which statements are read. The number bounds how deep the calls go.
 use Rattle.std.specs.Prelude.{ℕ, zero, suc, pos, List, ◌∷◌, Option, Some, None}
 use Rattle.cel_grammar.specs.declared.mark.Mark.{Mark}
 use Rattle.cel_grammar.specs.declared.mark.Mark.TheVariants as mark

@@ -1,5 +1,4 @@
--- Reading sources from left to right. No public clause cites this module. The number bounds how
--- deep the calls go.
+-- Reading sources from left to right, of which statements are read. The number bounds how deep the calls go.
 use Rattle.std.specs.Prelude.{ℕ, zero, suc, List, [], ◌∷◌, Option, Some, None}
 use Rattle.cel_grammar.specs.declared.mark.Mark.TheVariants as mark
 use Rattle.cel_grammar.specs.Symbols.{Symbol}

@@ -1,5 +1,5 @@
--- Reading statements from left to right. No public clause cites this module. The number bounds how
--- deep the calls go.
+-- Reading statements from left to right, of which what an added query says is made. They are those that the grammar has.
+-- The number bounds how deep the calls go: with 16 times the number of symbols each statement is read.
 use Rattle.std.specs.Prelude.{ℕ, zero, suc, nat_le, ◌&&◌, List, [], ◌∷◌, Option, Some, None, codes, if◌then◌else◌}
 use Rattle.std.specs.Str.{bytes_eq}
 use Rattle.event_types.specs.declared.kind.Kind.{Kind}
@@ -43,7 +43,7 @@ abbrev pub publish_at : List Symbol → Read (List ℕ)
 publish_at (the.Publish ∷ the.Name a ∷ ts) = done a ts
 publish_at ts = None
 
--- a declaration or a query; proofs alone cite it
+-- a declaration or a query
 unfoldable pub statement_at : ℕ → List Symbol → Read Statement
 statement_at n (the.Stream ∷ the.Name a ∷ the.Open ∷ ts) =
     columns_at n ts >>= λ cs. close_at cs.1 >>= done (Stream a cs.0)
