@@ -1,5 +1,5 @@
 -- What suits an expression fits what it gives.
-use Rattle.std.proofs.Common.{◌≡◌, ◌∙◌, ap, sym, subst, ℕ, [], ◌++◌, get_or, length, List, map}
+use Rattle.std.proofs.Common.{◌≡◌, ◌∙◌, ap, refl, sym, subst, ℕ, true, [], ◌∷◌, ◌++◌, get_or, length, List, map}
 use Rattle.std.specs.Prelude.{nat_lt, OnOk, Result, Some, slice_get}
 use Rattle.std.specs.List.{All}
 use Rattle.std.proofs.lemmas.List.{length-map}
@@ -44,3 +44,13 @@ pub read_derived : {T E : Type 0} (declared stream : ℕ) (table : List (List De
 read_derived {T} {E} declared stream table items e out next result there is ok =
     subst (λ (found : List DerivedTuple). OnOk result (next ≡ out ++ found))
     (ap (map (as_read (nat_lt stream declared))) (sym (get_or_from_slice_get table stream items [] there)) ∙ ap (λ (x : Ex). derived declared x (streams_of table)) (sym is)) ok
+
+-- the tuples of a declared stream of the table are what is derived
+pub declared_derived : (declared stream : ℕ) (table : List (List DerivedTuple)) (items : List DerivedTuple) (e : Ex) → slice_get table stream ≡ Some items → e ≡ Read stream → nat_lt stream declared ≡ true → items ≡ derived declared e (streams_of table)
+declared_derived declared stream table items e there is under =
+    sym (map_id items) ∙ (λ j. map (as_read (sym under j)) items) ∙ ap (map (as_read (nat_lt stream declared))) (sym (get_or_from_slice_get table stream items [] there))
+    ∙ ap (λ (x : Ex). derived declared x (streams_of table)) (sym is)
+  where
+    map_id : (xs : List DerivedTuple) → map (as_read true) xs ≡ xs
+    map_id [] = refl
+    map_id (x ∷ xs) = ap (λ ys. x ∷ ys) (map_id xs)

@@ -15,9 +15,12 @@ pub mod ListLemmas
 pub mod ListedLemmas
 pub mod NextLemmas
 pub mod OrderLemmas
+pub mod PartedLemmas
 pub mod ProgramLemmas
 pub mod PublishLemmas
 pub mod ReadLemmas
+pub mod RisingLemmas
+pub mod SideLemmas
 pub mod SoundLemmas
 pub mod TextLemmas
 pub mod TupleLemmas

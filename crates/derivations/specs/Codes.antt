@@ -1,8 +1,8 @@
 -- The codes by which a proof tells derivations apart. No contract is about them.
-use Rattle.std.specs.Prelude.{◌≡◌, ℕ, refl}
+use Rattle.std.specs.Prelude.{◌≡◌, ℕ, List, refl}
 use Rattle.std.proofs.Common.{ap}
 use base.Stored.{Gv, gnil, gnum, gcons}
-use Rattle.std.specs.Coded.{Coded, code_by, coded×}
+use Rattle.std.specs.Coded.{Coded, code_by, coded_list, coded×}
 use Rattle.event_types.specs.contracts.tuple.Tuple as tuple
 use Rattle.event_types.specs.Tuple.{TupleView}
 use Rattle.derivations.specs.Derivation.{Derivation, Derivations}
@@ -58,3 +58,7 @@ mutual
 abbrev pub derived_code : Coded DerivedTuple
 derived_code =
     code_by (TupleView × Derivation) (coded× tuple.the_row.coded (record { code = by_gv; inj = by_one })) (λ x. (x.tuple, x.by)) (λ p. record { tuple = p.0; by = p.1 }) (λ _. refl)
+
+-- the codes of lists of them
+abbrev pub deriveds_code : Coded (List DerivedTuple)
+deriveds_code = coded_list derived_code

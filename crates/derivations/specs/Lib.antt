@@ -7,7 +7,10 @@ pub mod Views
 pub mod DerivationOrder
 pub mod DerivationOrderLaws
 pub mod HeardLines
+pub mod Rising
+pub mod Parted
 pub mod Earliest
+pub mod Found
 pub mod Folds
 pub mod Fitting
 pub mod Tables

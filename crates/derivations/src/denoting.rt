@@ -1,5 +1,5 @@
 //! What an expression gives over streams whose tuples have derivations.
-ghost use Rattle.std.specs.Prelude.{◌≡◌, ◌++◌, IfOk, OnOk, length, map, None};
+ghost use Rattle.std.specs.Prelude.{◌≡◌, ◌++◌, IfOk, IfSome, OnOk, length, map, None};
 ghost use Rattle.std.specs.List.{filter};
 ghost use Rattle.semantics.specs.Truth.{all_true};
 ghost use Rattle.expressions.specs.Views.{ex_of};
@@ -7,12 +7,15 @@ ghost use Rattle.algebra.specs.Suits.{Suits};
 ghost use Rattle.derivations.specs.Derivation.{Left, Right};
 ghost use Rattle.derivations.specs.DerivedTuples.{derived, derived_selected, going_on};
 ghost use Rattle.derivations.specs.Fitting.{FitScalars, FitsAlone};
+ghost use Rattle.derivations.specs.Found.{tuples_found};
 ghost use Rattle.derivations.specs.Tables.{streams_of, tuples_of_streams};
 
 use crate::deriv::{Deriv, Derived, Deriveds, Table};
+use crate::found::Found;
 use crate::iteration::{Fold, add_all_runs};
 use crate::matching::add_all_matches;
 use crate::reading::add_read;
+use crate::sides::sides_of;
 use event_types::{List, Memory};
 use expressions::Expr;
 use scalar_expr::{Conj, Map, apply, holds};
@@ -36,6 +39,35 @@ pub(crate) fn derive<L: Ledger>(
     Ok(found)
 }
 
+// What the expression gives. The tuples of a declared stream aren't copied.
+#[cycle(denoting)]
+fn found_by<'a, L: Ledger>(
+    alloc: Global,
+    expr: &Expr,
+    declared: usize,
+    streams: &'a Table,
+    steps: &mut Steps<L>,
+) -> Result<Found<'a>, Memory>
+    requires { Suits (ex_of expr.now) (length streams.now) (tuples_of_streams streams.now) }
+    ensures { IfOk result (λ found. tuples_found found ≡ derived declared (ex_of expr.now) (streams_of streams.now)) }
+{
+    match declared_read(expr, declared, streams) {
+        Some(tuples) => Ok(Found::There(tuples)),
+        None => Ok(Found::Made(derive(alloc, expr, declared, streams, steps)?)),
+    }
+}
+
+// The tuples of a declared stream, if the expression reads one.
+fn declared_read<'a>(expr: &Expr, declared: usize, streams: &'a Table) -> Option<&'a [Derived]>
+    requires { Suits (ex_of expr.now) (length streams.now) (tuples_of_streams streams.now) }
+    ensures { IfSome result (λ tuples. tuples.now ≡ derived declared (ex_of expr.now) (streams_of streams.now)) }
+{
+    match expr {
+        Expr::Read(stream) if *stream < declared => Some(streams.get(*stream).as_slice()),
+        _ => None,
+    }
+}
+
 // Puts what the expression gives behind the tuples that are there.
 #[cycle(denoting)]
 fn add_derived<L: Ledger>(
@@ -57,22 +89,22 @@ fn add_derived<L: Ledger>(
             streams.get(*stream).as_slice(),
         ),
         Expr::Filter(condition, inner) => {
-            let found = derive(alloc, inner, declared, streams, steps)?;
+            let found = found_by(alloc, inner, declared, streams, steps)?;
             add_filtered(alloc, out, condition, found.as_slice(), steps)
         }
         Expr::Select(projection, inner) => {
-            let found = derive(alloc, inner, declared, streams, steps)?;
+            let found = found_by(alloc, inner, declared, streams, steps)?;
             add_selected(alloc, out, projection, found.as_slice())
         }
         Expr::Union(left, right) => {
-            let lefts = derive(alloc, left, declared, streams, steps)?;
-            let rights = derive(alloc, right, declared, streams, steps)?;
+            let lefts = found_by(alloc, left, declared, streams, steps)?;
+            let rights = found_by(alloc, right, declared, streams, steps)?;
             add_lefts(alloc, out, lefts.as_slice())?;
             add_rights(alloc, out, rights.as_slice())
         }
         Expr::Next(condition, left, right) => {
-            let bindings = derive(alloc, left, declared, streams, steps)?;
-            let found = derive(alloc, right, declared, streams, steps)?;
+            let bindings = found_by(alloc, left, declared, streams, steps)?;
+            let found = found_by(alloc, right, declared, streams, steps)?;
             add_all_matches(
                 alloc,
                 out,
@@ -83,13 +115,14 @@ fn add_derived<L: Ledger>(
             )
         }
         Expr::Fold(choose, on, projection, left, right) => {
-            let bindings = derive(alloc, left, declared, streams, steps)?;
-            let found = derive(alloc, right, declared, streams, steps)?;
+            let bindings = found_by(alloc, left, declared, streams, steps)?;
+            let found = found_by(alloc, right, declared, streams, steps)?;
+            let sides = sides_of(alloc, choose, bindings.as_slice(), found.as_slice())?;
             let fold = Fold {
                 choose,
                 on,
                 projection,
-                found: found.as_slice(),
+                found: sides,
             };
             add_all_runs(alloc, out, &fold, bindings.as_slice(), steps)
         }

@@ -1,11 +1,12 @@
 //! How results came about: each tuple that an expression denotes, with the events behind it.
 //!
 //! Contracts see a `Deriv` as a term (`derivation_of`), a `Derived` as its tuple and this term
-//! (`DerivedTuple`), and a `History` as its events with the numbers of their lines (`HeardLine`).
+//! (`DerivedTuple`), and a `History` as its events with the numbers of their lines (`Heard`, `HeardLines`).
 #![tactic(auto)]
 
 mod denoting;
 mod deriv;
+mod found;
 mod history;
 mod iteration;
 mod laws;
@@ -14,6 +15,8 @@ mod matching;
 mod ordering;
 mod publishing;
 mod reading;
+mod side;
+mod sides;
 mod texts;
 
 pub use deriv::{Deriv, Derived, Deriveds, Derivs, Table};

@@ -1,13 +1,16 @@
 //! NEXT: each binding joined with its nexts, with the derivations of both.
-ghost use Rattle.std.specs.Prelude.{◌≡◌, ◌++◌, ◌<◌, ◌&&◌, nat_le, IfOk, OnOk, Some, map};
+ghost use Rattle.std.specs.Prelude.{◌≡◌, ◌++◌, ◌∷◌, [], ◌<◌, ◌&&◌, if◌then◌else◌, nat_le, IfOk, IsTrue, OnOk, Some, map};
 ghost use Rattle.std.specs.List.{All, filter, flat_map};
 ghost use Rattle.semantics.specs.Nexts.{is_eligible};
 ghost use Rattle.scalar_expr.specs.Fits.{AllFit};
 ghost use Rattle.derivations.specs.DerivedTuples.{derived_eligible, derived_join, derived_matches, derived_nexts};
 ghost use Rattle.derivations.specs.Fitting.{FitsWith};
-ghost use Rattle.derivations.specs.Earliest.{least_at, noted_if, noted_least};
+ghost use Rattle.derivations.specs.Rising.{Rises};
+ghost use Rattle.derivations.specs.Earliest.{IsPast, least_at, lesser_if, lesser_of};
 
 use crate::deriv::{Deriv, Derived, Deriveds};
+use crate::side::Side;
+use crate::sides::{Sides, sides_of};
 use event_types::{List, Memory, Tuple};
 use scalar_expr::{Conj, can_follow, join};
 use std::alloc::Global;
@@ -25,8 +28,9 @@ pub(crate) fn add_all_matches<L: Ledger>(
     requires { All (λ binding. FitsWith condition.now found.now binding.tuple) bindings.now }
     ensures { OnOk result (out.new ≡ out.old ++ flat_map (derived_matches condition.now found.now) bindings.now) }
 {
+    let sides = sides_of(alloc, condition, bindings, found)?;
     for binding in bindings {
-        add_matches(alloc, out, condition, binding, found, steps)?;
+        add_matches(alloc, out, condition, binding, &sides, steps)?;
     }
     Ok(())
 }
@@ -37,7 +41,7 @@ fn add_matches<L: Ledger>(
     out: &mut Deriveds,
     condition: &Conj,
     binding: &Derived,
-    found: &[Derived],
+    found: &Sides<'_>,
     steps: &mut Steps<L>,
 ) -> Result<(), Memory>
     requires { FitsWith condition.now found.now binding.now.tuple }
@@ -82,14 +86,15 @@ pub(crate) fn nexts_of<L: Ledger>(
     alloc: Global,
     condition: &Conj,
     binding: &Tuple,
-    found: &[Derived],
+    found: &Sides<'_>,
     steps: &mut Steps<L>,
 ) -> Result<Deriveds, Memory>
     requires { FitsWith condition.now found.now binding.now }
     ensures { IfOk result (λ nexts. nexts ≡ derived_nexts condition.now binding.now found.now) }
 {
-    match first_time(condition, binding, found, steps) {
-        Some(time) => eligible_by(alloc, condition, binding, found, time, steps),
+    let side = found.side_for(condition, binding);
+    match first_time(condition, binding, side, steps) {
+        Some(time) => eligible_by(alloc, condition, binding, side, time, steps),
         None => Ok(List::new(alloc)),
     }
 }
@@ -98,17 +103,38 @@ pub(crate) fn nexts_of<L: Ledger>(
 fn first_time<L: Ledger>(
     condition: &Conj,
     binding: &Tuple,
-    found: &[Derived],
+    found: &Side<'_>,
     steps: &mut Steps<L>,
 ) -> Option<u64>
     requires { FitsWith condition.now found.now binding.now }
     ensures { result ≡ least_at (derived_eligible condition.now binding.now found.now) }
 {
     let mut first = None;
-    for one in found {
+    for place in found.start_after(binding.at())..found.len() {
+        let one = found.get(place);
+        if is_over(found, first, one.tuple.at()) {
+            return first;
+        }
         first = noted(first, condition, binding, &one.tuple, steps);
     }
     first
+}
+
+// Whether a time is after the first one, and no tuple behind it is detected earlier.
+fn is_over(found: &Side<'_>, first: Option<u64>, time: u64) -> bool
+    ensures { IsTrue result → IsPast first time × Rises found.now }
+{
+    is_past(first, time) && found.rises()
+}
+
+// Whether a time is after another, if there is one.
+fn is_past(first: Option<u64>, time: u64) -> bool
+    ensures { IsTrue result → IsPast first time }
+{
+    match first {
+        Some(other) => other < time,
+        None => false,
+    }
 }
 
 // The lesser of a time, if there is one, and that of a tuple, where this is eligible for a binding.
@@ -120,7 +146,7 @@ fn noted<L: Ledger>(
     steps: &mut Steps<L>,
 ) -> Option<u64>
     requires { AllFit condition.now tuple.now (Some binding.now) }
-    ensures { result ≡ noted_if (is_eligible condition.now binding.now tuple.now) first tuple.now.at }
+    ensures { result ≡ lesser_if (is_eligible condition.now binding.now tuple.now) first tuple.now.at }
 {
     if can_follow(condition, binding, tuple, steps) {
         Some(lesser(first, tuple.at()))
@@ -131,7 +157,7 @@ fn noted<L: Ledger>(
 
 // The lesser of a time and another, if there is one.
 fn lesser(first: Option<u64>, time: u64) -> u64
-    ensures { result ≡ noted_least first time }
+    ensures { result ≡ lesser_of first time }
 {
     match first {
         Some(other) if other <= time => other,
@@ -139,12 +165,12 @@ fn lesser(first: Option<u64>, time: u64) -> u64
     }
 }
 
-// The tuples that are eligible for a binding and detected by a time.
+// The tuples that are eligible for a binding and detected no later than a time.
 fn eligible_by<L: Ledger>(
     alloc: Global,
     condition: &Conj,
     binding: &Tuple,
-    found: &[Derived],
+    found: &Side<'_>,
     time: u64,
     steps: &mut Steps<L>,
 ) -> Result<Deriveds, Memory>
@@ -152,15 +178,28 @@ fn eligible_by<L: Ledger>(
     ensures { IfOk result (λ nexts. nexts ≡ filter (λ x. is_eligible condition.now binding.now x.tuple && nat_le x.tuple.at time) found.now) }
 {
     let mut nexts = List::new(alloc);
-    for one in found {
-        if is_eligible_by(condition, binding, &one.tuple, time, steps) {
-            nexts.add(one.copy(alloc)?)?;
+    for place in found.start_after(binding.at())..found.len() {
+        let one = found.get(place);
+        if is_over(found, Some(time), one.tuple.at()) {
+            return Ok(nexts);
         }
+        let is_next = is_eligible_by(condition, binding, &one.tuple, time, steps);
+        add_where(alloc, &mut nexts, is_next, one)?;
     }
     Ok(nexts)
 }
 
-// Whether the tuple is eligible for the binding and detected by a time.
+// Adds the tuple where it is one of the nexts.
+fn add_where(alloc: Global, out: &mut Deriveds, is_next: bool, one: &Derived) -> Result<(), Memory>
+    ensures { OnOk result (out.new ≡ out.old ++ (if is_next then one.now ∷ [] else [])) }
+{
+    if !is_next {
+        return Ok(());
+    }
+    out.add(one.copy(alloc)?)
+}
+
+// Whether the tuple is eligible for the binding and detected no later than a time.
 fn is_eligible_by<L: Ledger>(
     condition: &Conj,
     binding: &Tuple,

@@ -37,9 +37,9 @@ add_derived-add_all_matches-requires g t c =
 pub add_derived-add_all_runs-requires : goal.add_derived-add_all_runs-requires
 add_derived-add_all_runs-requires g t c =
     let suits = subst (λ (x : Expr). Suits (ex_of x) (length c.args.streams.now) (tuples_of_streams c.args.streams.now)) c.in-Fold.is c.requires in
-    fold_fits c.in-Fold.choose c.in-Fold.on c.in-Fold.projection.parts c.args.declared (streams_of c.args.streams.now) (ex_of c.in-Fold.left.value) (ex_of c.in-Fold.right.value) c.as_slice-in-Fold-2.result.now c.as_slice-in-Fold.result.now
-    (c.as_slice-in-Fold-2.ensures ∙ c.in_ok-bindings-in-Fold.ensures ∙ ap (λ (x : Expr). derived c.args.declared (ex_of x) (streams_of c.args.streams.now)) c.deref-in-Fold.ensures)
-    (c.as_slice-in-Fold.ensures ∙ c.in_ok-found-in-Fold.ensures ∙ ap (λ (x : Expr). derived c.args.declared (ex_of x) (streams_of c.args.streams.now)) c.deref-in-Fold-2.ensures) suits.2
+    fold_fits c.in-Fold.choose c.in-Fold.on c.in-Fold.projection.parts c.args.declared (streams_of c.args.streams.now) (ex_of c.in-Fold.left.value) (ex_of c.in-Fold.right.value) c.as_slice-in-Fold-3.result.now c.in_ok-sides-in-Fold.sides
+    (c.as_slice-in-Fold-3.ensures ∙ c.in_ok-bindings-in-Fold.ensures ∙ ap (λ (x : Expr). derived c.args.declared (ex_of x) (streams_of c.args.streams.now)) c.deref-in-Fold.ensures)
+    (c.in_ok-sides-in-Fold.ensures ∙ c.as_slice-in-Fold-2.ensures ∙ c.in_ok-found-in-Fold.ensures ∙ ap (λ (x : Expr). derived c.args.declared (ex_of x) (streams_of c.args.streams.now)) c.deref-in-Fold-2.ensures) suits.2
 
 -- what was read of the stream is what it gives
 pub add_derived-returns-in-Read : goal.add_derived-returns-in-Read

@@ -10,4 +10,4 @@ use Rattle.derivations.proofs.iteration.goers_of.Goals as goal
 pub passing-requires : goal.passing-requires
 passing-requires g c =
     let P = λ (x : DerivedTuple). AllFit c.args.fold.now.on.now x.tuple (Some c.args.binding.now) in
-    All-same P _ _ (c.as_slice.ensures ∙ c.in_ok-nexts.ensures) (derived_nexts_keep P c.args.fold.now.choose.now c.args.binding.now c.args.fold.now.found.now c.requires.on)
+    All-same P _ _ (c.as_slice.ensures ∙ c.in_ok-nexts.ensures) (derived_nexts_keep P c.args.fold.now.choose.now c.args.binding.now c.args.fold.now.found c.requires.on)

@@ -5,5 +5,5 @@ use Rattle.derivations.specs.DerivedTuples.{DerivedTuple}
 use Rattle.derivations.proofs.matching.eligible_by.Given as goal
 
 -- what was found is those of the tuples so far that are eligible and detected by the time
-abbrev pub invariant-loop-one : goal.invariant-loop-one
-invariant-loop-one g l = l.nexts ≡ filter (λ (x : DerivedTuple). is_eligible l.condition l.binding x.tuple && nat_le x.tuple.at l.time) (take l.one-index l.found)
+abbrev pub invariant-loop-place : goal.invariant-loop-place
+invariant-loop-place g l = l.nexts ≡ filter (λ (x : DerivedTuple). is_eligible l.condition l.binding x.tuple && nat_le x.tuple.at l.time) (take l.place l.found)
