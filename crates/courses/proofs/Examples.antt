@@ -1,17 +1,9 @@
 -- Examples of courses and of event texts with control lines, each worked out by hand. No contract cites them.
-use Rattle.std.proofs.Common.{◌≡◌, ◌∙◌, ap, arith, cond, is_none, refl, lit<, ℕ, ◌+◌, ◌<◌, false, true, List, [], ◌∷◌, ◌++◌, map}
+use Rattle.std.proofs.Common.{◌≡◌, ◌∙◌, ap, cond, is_none, refl, lit<, ℕ, ◌+◌, ◌<◌, false, true, List, [], ◌∷◌, ◌++◌, map}
 use Rattle.std.specs.Prelude.{codes, None, Some, Ok, Err}
 use Rattle.std.specs.List.{join_with_byte}
-use Rattle.std.specs.Str.{is_utf8}
 use Rattle.std.proofs.lemmas.Fmt.{decimal_digit}
-use Rattle.std.proofs.lemmas.Str.{is_utf8-from_IsUtf8}
-use Rattle.cel_lexer.specs.Faults.{tokens_of}
-use Rattle.cel_lexer.specs.Signs.{is_sign}
-use Rattle.cel_lexer.specs.Tokens.{tokens_from}
-use Rattle.cel_lexer.specs.Words.{is_keyword}
-use Rattle.cel_lexer.specs.declared.token.Token.{Token}
-use Rattle.cel_lexer.specs.declared.token.What.{What}
-use Rattle.cel_lexer.specs.declared.token.What.TheVariants as what
+use Rattle.event_types.specs.declared.comparison.Cmp.TheVariants as cmp
 use Rattle.event_types.specs.declared.kind.Kind.TheVariants as kind
 use Rattle.event_types.specs.Tuple.{TupleView}
 use Rattle.semantics.specs.Expressions.{Ex, Next, Read, Select}
@@ -19,54 +11,71 @@ use Rattle.semantics.specs.Histories.{Event}
 use Rattle.semantics.specs.Programs.{Query}
 use Rattle.semantics.specs.Report.{line, quoted}
 use Rattle.semantics.specs.Results.{results}
+use Rattle.semantics.specs.Scalars.{Binding, Test}
 use Rattle.semantics.specs.Scalars.{Event as EventAt}
-use Rattle.semantics.proofs.Examples.{pair, rises, tuple}
+use Rattle.semantics.proofs.Examples.{pair, tuple}
+use Rattle.stream_schema.specs.Schema.{Attr}
 use Rattle.stream_schema.specs.Streams.{Entry}
-use Rattle.cel_grammar.specs.Sentences.{placed_of}
-use Rattle.cel_grammar.specs.Sentences as sentence
-use Rattle.cel_grammar.specs.Sources as source
-use Rattle.cel_grammar.specs.Statements as statement
+use Rattle.cel_grammar.specs.declared.mark.Mark.TheVariants.{First, Second}
 use Rattle.cel_grammar.specs.Trees as tree
-use Rattle.cel_parser.specs.OneQuery.{IsOneQuery, query}
-use Rattle.cel_types.specs.Items as items
-use Rattle.cel_types.specs.Sources as elaborated
-use Rattle.catalogue.specs.declared.fault.QueryFault.{QueryFault}
-use Rattle.catalogue.specs.declared.fault.QueryFault.TheVariants.{Duplicate, Unknown}
-use Rattle.catalogue.specs.Adding.{AddedQuery, FailsAsOneQuery, JudgesAdded, NotTaken, Taken}
-use Rattle.catalogue.specs.Adding as adding
-use Rattle.event_csv.specs.Control.{Asked, is_control}
+use Rattle.catalogue.specs.Adding.{AddedQuery}
+use Rattle.event_csv.specs.Control.{is_control}
 use Rattle.event_csv.specs.Lines.{Line, lines_from}
 use Rattle.event_csv.specs.declared.control.ControlError.TheVariants as error
 use Rattle.courses.specs.declared.fault.ControlFault.TheVariants as fault
 use Rattle.courses.specs.declared.refusal.Refusal.TheVariants.{IsOutOfOrder}
-use Rattle.courses.specs.ControlLines.{OfControl, added_entry, control_entry, dropped_entry, entry_of, query_named}
+use Rattle.courses.specs.ControlLines.{OfControl, control_entry, dropped_entry, entry_of, query_named}
 use Rattle.courses.specs.Course.{Adds, Course, Drops, Hears, after, events_in, start}
 use Rattle.courses.specs.Heard.{closed_after, heard_after, refusal_of, refused_after, without_open}
 use Rattle.courses.specs.QuerySet.{QuerySet, without}
 use Rattle.courses.specs.Reports.{course_report, program_at}
 use Rattle.courses.proofs.HeardLemmas.{one_more, refused_here}
-use Rattle.courses.proofs.VerdictLemmas.{verdict_is}
 
--- STREAM S (a INT);
--- SELECT * FROM S NEXT {$2.a > $1.a} S PUBLISH Pair;
+-- an attribute of whole numbers
+abbrev pub int : List ℕ → Attr
+int name = record { name = name; kind = kind.Int }
+
+-- streams that are declared, and that are published
+abbrev pub declared : List ℕ → List Attr → Entry
+declared name schema = record { name = name; schema = schema; declared = true }
+
+abbrev published : List ℕ → List Attr → Entry
+published name schema = record { name = name; schema = schema; declared = false }
+
+-- SELECT * FROM S NEXT {$2.a > $1.a} S: the condition is turned round, and both attributes are selected
 abbrev rising : Ex
-rising = Next rises (Read 0) (Read 0)
+rising = Select (record { width = 2; parts = EventAt 0 ∷ EventAt 1 ∷ [] }) (Next (Test (Binding 0) cmp.Lt (EventAt 0) ∷ []) (Read 0) (Read 0))
+
+abbrev risings : List Attr
+risings = int (codes "a") ∷ int (codes "a_2") ∷ []
 
 abbrev pair_query : Query
 pair_query = record { name = codes "Pair"; stream = 1; hidden = 2; expr = rising; birth = None }
 
-abbrev published : List ℕ → Entry
-published name = record { name = name; schema = []; declared = false }
-
-abbrev one_query : QuerySet
+-- STREAM S (a INT);
+-- SELECT * FROM S NEXT {$2.a > $1.a} S PUBLISH Pair;
+abbrev pub one_query : QuerySet
 one_query = record {
-  streams = record { name = codes "S"; schema = record { name = codes "a"; kind = kind.Int } ∷ []; declared = true } ∷ published (codes "Pair") ∷ [];
+  streams = declared (codes "S") (int (codes "a") ∷ []) ∷ published (codes "Pair") risings ∷ [];
   program = record { declared = 1; queries = pair_query ∷ []; order = pair_query ∷ [] };
 }
 
--- SELECT * FROM S NEXT {$2.a > $1.a} S PUBLISH Pair2;
-abbrev pair_more : AddedQuery
-pair_more = record { statement = tree.Query (tree.All ∷ []) (tree.Name (codes "S")) (codes "Pair2"); schema = []; expr = rising }
+-- SELECT * FROM S NEXT {$2.a > $1.a} S PUBLISH Pair2; in `LineExamples` it is what the line says that adds it
+abbrev pub pair_more : AddedQuery
+pair_more = record {
+  statement = tree.Query (tree.All ∷ [])
+      (tree.Next (tree.Test (tree.Attr Second (codes "a")) cmp.Gt (tree.Attr First (codes "a"))) (tree.Name (codes "S")) (tree.Name (codes "S"))) (codes "Pair2");
+  schema = risings;
+  expr = rising;
+}
+
+-- SELECT * FROM S PUBLISH Q; which a line adds too, also behind the second pairs
+abbrev pub all_of_s : AddedQuery
+all_of_s = record {
+  statement = tree.Query (tree.All ∷ []) (tree.Name (codes "S")) (codes "Q");
+  schema = int (codes "a") ∷ [];
+  expr = Select (record { width = 1; parts = EventAt 0 ∷ [] }) (Read 0);
+}
 
 abbrev heard : ℕ → ℕ → Event
 heard n at = record { stream = 0; tuple = tuple n at at }
@@ -103,7 +112,7 @@ report_of_comes =
 births_of_comes : map (λ (query : Query). query.birth) (after (start one_query) comes).set.program.queries ≡ None ∷ Some 2 ∷ []
 births_of_comes = refl
 
-birth_before_all : map (λ (query : Query). query.birth) (after (start one_query) (Adds pair_more ∷ comes)).set.program.queries ≡ None ∷ None ∷ Some 2 ∷ []
+birth_before_all : map (λ (query : Query). query.birth) (after (start one_query) (Adds pair_more ∷ two_heard ++ Adds all_of_s ∷ [])).set.program.queries ≡ None ∷ None ∷ Some 2 ∷ []
 birth_before_all = refl
 
 -- where the query leaves after the event of 2, that of 3 gives nothing
@@ -140,11 +149,11 @@ neither_form = refl
 
 -- SELECT * FROM Pair PUBLISH P;
 abbrev reader : Query
-reader = record { name = codes "P"; stream = 2; hidden = 3; expr = Read 1; birth = None }
+reader = record { name = codes "P"; stream = 2; hidden = 3; expr = Select (record { width = 2; parts = EventAt 0 ∷ EventAt 1 ∷ [] }) (Read 1); birth = None }
 
 abbrev two_queries : QuerySet
 two_queries = record {
-  streams = one_query.streams ++ published (codes "P") ∷ [];
+  streams = one_query.streams ++ published (codes "P") risings ∷ [];
   program = record { declared = 1; queries = pair_query ∷ reader ∷ []; order = pair_query ∷ reader ∷ [] };
 }
 
@@ -180,73 +189,6 @@ module _ (first second third : Line)
   all_before_is_closed =
       let all = at_first.1 ∙ at_second.1 ∙ at_third.1 in
       ap (λ o. cond (is_none o) (heard_after one_query [] (first ∷ second ∷ third ∷ [])) (closed_of (heard_after one_query [] (first ∷ second ∷ third ∷ [])))) third_is_refused ∙ ap closed_of all
-
--- what isn't one query is refused for its fault, as two statements are for the second one
-not_one_query : (text : List ℕ) (at : ℕ) (why : QueryFault) → FailsAsOneQuery text at why → control_entry one_query (Ok (Asked.Adding text)) ≡ Err (OfControl (fault.Query why))
-not_one_query text at why fails = ap added_entry (verdict_is one_query.streams text (NotTaken at why) (adding.text fails))
-
--- >ADD SELECT * FROM S PUBLISH Q;
-abbrev comes_text : List ℕ
-comes_text = codes "SELECT * FROM S PUBLISH Q;"
-
-abbrev token : What → ℕ → ℕ → Token
-token kind begin end = record { what = kind; line = 1; begin = begin; end = end }
-
-abbrev comes_tokens : List Token
-comes_tokens =
-    token what.Keyword 0 6 ∷ token what.Sign 7 8 ∷ token what.Keyword 9 13 ∷ token what.Name 14 15 ∷ token what.Keyword 16 23 ∷ token what.Name 24 25
-    ∷ token what.Sign 25 26 ∷ []
-
-comes_is_utf8 : is_utf8 comes_text ≡ true
-unfolding lib.Utf8.encode
-comes_is_utf8 = is_utf8-from_IsUtf8 comes_text (comes_text, (refl, refl))
-
-comes_has_tokens : tokens_of comes_text ≡ Ok comes_tokens
-unfolding is_keyword is_sign tokens_from
-comes_has_tokens = rw comes_is_utf8 refl
-
--- it selects the one attribute of S
-abbrev all_of_s : AddedQuery
-all_of_s = record {
-  statement = tree.Query (tree.All ∷ []) (tree.Name (codes "S")) (codes "Q");
-  schema = record { name = codes "a"; kind = kind.Int } ∷ [];
-  expr = Select (record { width = 1; parts = EventAt 0 ∷ [] }) (Read 0);
-}
-
-comes_is_read : IsOneQuery comes_text all_of_s.statement 1
-unfolding placed_of
-comes_is_read = record {
-  reads = record {
-    tokens = comes_tokens;
-    all = comes_has_tokens;
-    said = sentence.more (record { ended = refl; small = record { few = omega arith; shallow = refl }; read = statement.query (source.one source.star) (source.term source.of) }) sentence.none;
-  };
-  query = query;
-}
-
-comes_is_taken : JudgesAdded one_query.streams comes_text (Taken all_of_s)
-comes_is_taken = adding.one (omega arith) comes_is_read (adding.taken refl refl (elaborated.select (elaborated.name refl refl) (items.all refl items.none) (omega arith)))
-
-whole_is_utf8 : is_utf8 (codes ">ADD " ++ comes_text) ≡ true
-unfolding lib.Utf8.encode
-whole_is_utf8 = is_utf8-from_IsUtf8 (codes ">ADD " ++ comes_text) (codes ">ADD " ++ comes_text, (refl, refl))
-
--- so the line says that this query comes
-line_adds : entry_of one_query (codes ">ADD SELECT * FROM S PUBLISH Q;") ≡ Ok (Adds all_of_s)
-line_adds = rw whole_is_utf8 (ap added_entry (verdict_is one_query.streams comes_text (Taken all_of_s) comes_is_taken))
-
--- over queries of which one publishes Q, or none of whose streams is S, the same text is refused
-abbrev has_published : QuerySet
-has_published = record { streams = one_query.streams ++ published (codes "Q") ∷ []; program = one_query.program }
-
-line_is_second : entry_of has_published (codes ">ADD SELECT * FROM S PUBLISH Q;") ≡ Err (OfControl (fault.Query (Duplicate (codes "Q"))))
-line_is_second = rw whole_is_utf8 (ap added_entry (verdict_is has_published.streams comes_text (NotTaken 1 (Duplicate (codes "Q"))) (adding.one (omega arith) comes_is_read (adding.named refl))))
-
-abbrev has_no_stream : QuerySet
-has_no_stream = record { streams = []; program = record { declared = 0; queries = []; order = [] } }
-
-line_reads_nothing : entry_of has_no_stream (codes ">ADD SELECT * FROM S PUBLISH Q;") ≡ Err (OfControl (fault.Query (Unknown (codes "S"))))
-line_reads_nothing = rw whole_is_utf8 (ap added_entry (verdict_is has_no_stream.streams comes_text (NotTaken 1 (Unknown (codes "S"))) (adding.one (omega arith) comes_is_read (adding.reads refl refl))))
 
 -- a mark that doesn't stand at the front of the text stands in its line, which is no control line then
 abbrev mark : List ℕ

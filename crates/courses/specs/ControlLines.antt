@@ -3,7 +3,6 @@ use Rattle.std.specs.Prelude.{ℕ, List, Option, Some, None, Result, Ok, Err, fi
 use Rattle.std.specs.Str.{bytes_eq}
 use Rattle.cel_lexer.specs.Names.{is_name}
 use Rattle.semantics.specs.Programs.{Query}
-use Rattle.stream_schema.specs.Streams.{Entry}
 use Rattle.event_csv.specs.Control.{Asked, control_of, is_control}
 use Rattle.event_csv.specs.Event.{event}
 use Rattle.event_csv.specs.Lines.{is_long}
@@ -14,9 +13,9 @@ use Rattle.event_csv.specs.declared.fault.LineFault.{LineFault}
 use Rattle.event_csv.specs.declared.fault.LineFault.TheVariants as line
 use Rattle.catalogue.specs.Adding.{AddedVerdict, Taken, NotTaken}
 use Rattle.catalogue.specs.Counting.{reads}
-use Rattle.catalogue.proofs.AddingLemmas.{some_added_verdict}
 use Rattle.courses.specs.declared.fault.ControlFault.{ControlFault}
 use Rattle.courses.specs.declared.fault.ControlFault.TheVariants as fault
+unfoldable pub use Rattle.courses.specs.AddedVerdicts.{verdict_of}
 use Rattle.courses.specs.Course.{CourseEntry, Hears, Adds, Drops}
 use Rattle.courses.specs.QuerySet.{QuerySet}
 
@@ -24,10 +23,6 @@ use Rattle.courses.specs.QuerySet.{QuerySet}
 pub data EntryFault : Type 0 where
   OfLine : LineFault → EntryFault
   OfControl : ControlFault → EntryFault
-
--- the verdict on the text of an added query, over the streams that are there; each text has one, by a law of `catalogue`
-abbrev pub verdict_of : List Entry → List ℕ → AddedVerdict
-verdict_of streams text = (some_added_verdict streams text).0
 
 -- an added query that is taken is an entry; a fault of its text is one of the control line
 abbrev pub added_entry : AddedVerdict → Result CourseEntry EntryFault
@@ -52,7 +47,7 @@ abbrev pub dropped_entry : QuerySet → List ℕ → Option Query → Result Cou
 dropped_entry set name None = Err (OfControl (fault.UnknownQuery name))
 dropped_entry set name (Some query) = dropped_unless_read query (first_reader set query.stream)
 
--- what a control line says by what it asks for; what leaves is asked for by one name
+-- what a control line says by what it asks for; behind `>DROP ` stands one name, or the line has no form
 abbrev pub control_entry : QuerySet → Result Asked ControlError → Result CourseEntry EntryFault
 control_entry set (Ok (Asked.Adding text)) = added_entry (verdict_of set.streams text)
 control_entry set (Ok (Asked.Removing name)) = if is_name name then dropped_entry set name (query_named set name) else Err (OfControl fault.BadForm)

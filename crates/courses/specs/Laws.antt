@@ -1,16 +1,22 @@
 -- Laws of courses and of event texts with control lines.
-use Rattle.std.specs.Prelude.{◌≡◌, ℕ, ◌<◌, Bool, false, List, [], ◌++◌, length, map, Some}
+use Rattle.std.specs.Prelude.{◌≡◌, ◌↔◌, ℕ, ◌<◌, Bool, false, List, [], ◌++◌, length, map, Some}
 use Rattle.std.specs.List.{All}
 use Rattle.semantics.specs.Histories.{Event}
 use Rattle.semantics.specs.Report.{epoch, report}
 use Rattle.stream_schema.specs.Streams.{Entry}
+use Rattle.catalogue.specs.Adding.{AddedVerdict, JudgesAdded}
 use Rattle.event_csv.specs.Control.{is_control}
 use Rattle.event_csv.specs.Lines.{lines}
 use Rattle.courses.specs.declared.refusal.Refusal.{Refusal}
+use Rattle.courses.specs.AddedVerdicts.{verdict_of}
 use Rattle.courses.specs.Course.{Course, Hears, events_in, set_after}
 use Rattle.courses.specs.EventLines.{closed, heard, readings, readings_here, refused}
 use Rattle.courses.specs.QuerySet.{QuerySet}
 use Rattle.courses.specs.Reports.{closed_in, course_report, heard_in, refused_in, report_of_closed}
+
+-- the text of an added query is judged by the rules to be just what its verdict is computed to be
+abbrev pub VerdictsAreJudged : Type 0
+VerdictsAreJudged = (streams : List Entry) (text : List ℕ) (verdict : AddedVerdict) → JudgesAdded streams text verdict ↔ (verdict_of streams text ≡ verdict)
 
 -- the first refused line of a text is that of each text that goes on from it
 abbrev pub RefusedLinesStay : Type 0

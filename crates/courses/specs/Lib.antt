@@ -1,5 +1,14 @@
 pub mod QuerySet
 pub mod Course
+pub mod FirstFault
+pub mod ScalarTypes
+pub mod ConditionTypes
+pub mod ItemTypes
+pub mod AggregateTypes
+pub mod SourceTypes
+pub mod QuerySentences
+pub mod ToldFaults
+pub mod AddedVerdicts
 pub mod ControlLines
 pub mod Heard
 pub mod Reports

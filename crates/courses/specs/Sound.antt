@@ -18,7 +18,7 @@ pub record MayHear (m : Moment) (event : Event) : Type 0 where
   pub kinds : HasKinds (kinds_in m.set.streams event.stream) event.tuple
   pub sound : IsSound event.tuple
 
--- a query may be added: a text adds it over the streams that are there
+-- a query may be added: some text adds it over the streams that are there, be it one of up to 1,048,576 bytes with line feeds, which no control line could hold; so laws on sound courses say the more
 pub record MayAdd (m : Moment) (added : AddedQuery) : Type 0 where
   pub text : List ℕ
   pub taken : JudgesAdded m.set.streams text (Taken added)

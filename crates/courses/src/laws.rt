@@ -1,5 +1,10 @@
 //! Laws of courses and of event texts with control lines.
-ghost use Rattle.courses.specs.Laws.{ControlEntriesAddNoLine, CourseReportGrowsByEpochs, EventLinesAreHeardAlone, EventLinesAreReadAlike, EventsAloneAreAHistory, RefusedLinesStay, ReportsGrow};
+ghost use Rattle.courses.specs.Laws.{ControlEntriesAddNoLine, CourseReportGrowsByEpochs, EventLinesAreHeardAlone, EventLinesAreReadAlike, EventsAloneAreAHistory, RefusedLinesStay, ReportsGrow, VerdictsAreJudged};
+
+/// The verdict that is computed for the text of an added query is the one that the rules give, for each text over any streams.
+pub fn verdicts_are_judged()
+    ensures { VerdictsAreJudged }
+{}
 
 /// A refused line stays refused, whatever bytes follow.
 pub fn refused_lines_stay()

@@ -11,5 +11,6 @@ pub use fault::ControlFault;
 pub use laws::{
     control_entries_add_no_line, course_report_grows_by_epochs, event_lines_are_heard_alone,
     event_lines_are_read_alike, events_alone_are_a_history, refused_lines_stay, reports_grow,
+    verdicts_are_judged,
 };
 pub use refusal::Refusal;
