@@ -1,4 +1,5 @@
 pub mod BatchLinesLemmas
+pub mod BeginningLemmas
 pub mod ChangeLemmas
 pub mod ClosedLemmas
 pub mod ClosingLemmas

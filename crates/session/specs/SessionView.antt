@@ -89,7 +89,7 @@ pub record SessionStandsFor (session : SessionView) (set : QuerySet) (past : Cou
 -- whatever sound course leads to the queries of a catalogue, where an engine stands for its events, and has an epoch open exactly where its last entry is an event, a session stands for it and for no text behind it
 abbrev pub StandsForPast : catalogues.Catalogued → engine.EngineView → SessionView → Type 0
 StandsForPast c over session =
-    (set : QuerySet) (past : Course) → IsSoundCourse set past → set_in c ≡ set_after set past → AreDeclared c (events_in past)
+    (set : QuerySet) (past : Course) → IsSoundCourse set past → set_in c ≡ set_after set past
     → engines.EngineStandsFor over (born_lines (catalogues.program_in c)) (events_in past) → is_some over.time ≡ (moment_of set past).is_open → SessionStandsFor session set past []
 
 -- the session has the queries that are there after all that was heard of the whole text, and its engine works for this, with no epoch open

@@ -92,7 +92,6 @@ impl Session {
     /// memory.
     pub fn over(alloc: Global, catalogue: Catalogue, engine: Engine, limit: u64) -> Session
         requires at_one { AreAtOne catalogue engine }
-        requires layout { IsLayoutOver catalogue.streams (catalogues.program_in catalogue) engine.layout }
         requires born { IsLatest engine.closed_time catalogue }
         ensures queries { result.catalogue ≡ catalogue }
         ensures limit { result.limit ≡ limit }

@@ -1,5 +1,4 @@
 use Rattle.std.proofs.Common.{[], ap, is_some, sym, subst, refl}
-use Rattle.std.proofs.lemmas.List.Elements.{All-nil}
 use Rattle.catalogue.specs.Coming.{IsLatest}
 use Rattle.catalogue.proofs.NewcomerLemmas.{none_is_latest}
 use Rattle.courses.specs.QuerySet.{set_in}
@@ -11,4 +10,4 @@ over-requires-clause-born c = subst (λ time. IsLatest time c.args.catalogue) (s
 
 -- the session stands for nothing
 pub returns-clause-stands : goal.returns-clause-stands
-returns-clause-stands c = c.over.ensures.stands (set_in c.args.catalogue) [] tt refl (All-nil _, All-nil _) c.in_ok-engine.ensures.stands (ap is_some c.in_ok-engine.ensures.none_open)
+returns-clause-stands c = c.over.ensures.stands (set_in c.args.catalogue) [] tt refl c.in_ok-engine.ensures.stands (ap is_some c.in_ok-engine.ensures.none_open)

@@ -2,7 +2,9 @@ use Rattle.std.proofs.Common.{◌<◌, ◌≤◌, ℕ, List, length, sym, subst,
 use Rattle.catalogue.specs.Coming.{IsLatest}
 use Rattle.event_csv.specs.Fed.{Fed, IsPart, line_feeds_so_far}
 use Rattle.session.specs.Fronts.{AreFronts}
+use Rattle.session.proofs.BeginningLemmas.{past_declared}
 use Rattle.session.proofs.FrontLemmas.{no_fronts}
+use Rattle.session.proofs.PlanLemmas.{laid_over}
 use Rattle.session.proofs.SessionLemmas.{begins, unfed_part}
 use Rattle.session.proofs.session.Session.over.Goals as goal
 
@@ -18,4 +20,6 @@ invariant_of-result c = λ going. record {
 
 -- it stands for what its engine stands for
 pub returns-clause-stands : goal.returns-clause-stands
-returns-clause-stands c = λ set past sound holds declared stands opened. begins _ set past refl refl c.new-4.ensures sound holds declared c.requires.at_one c.requires.layout stands opened
+returns-clause-stands c = λ set past sound holds stands opened.
+    let standing = c.queries-queries.ensures.stands in
+    begins _ set past refl refl c.new-4.ensures sound holds (past_declared c.args.catalogue set past standing sound holds) c.requires.at_one (laid_over c.args.catalogue c.args.engine standing c.requires.at_one) stands opened
