@@ -1,10 +1,19 @@
 -- Examples of merges, each worked out by hand. No contract cites them.
-use Rattle.std.proofs.Common.{◌≡◌, refl, ℕ, ◌+◌, Bool, true, false, List, [], ◌∷◌, Some, None, Ok, Err, map}
+use Rattle.std.proofs.Common.{◌≡◌, ◌∙◌, ap, refl, ℕ, ◌+◌, ◌<◌, ◌≤◌, Bool, true, false, List, [], ◌∷◌, Some, None, Ok, Err, arith, get_or, length, map}
+use Rattle.std.specs.Prelude.{◌==◌, IsUtf8, codes}
+use Rattle.std.specs.List.{list_all}
+use Rattle.stream_schema.specs.Streams.{Entry}
+use Rattle.event_csv.specs.Event.{record_event}
+use Rattle.event_csv.specs.Fields.{is_plain, parts_of}
+use Rattle.event_csv.specs.Lines.{line_limit}
 use Rattle.event_csv.specs.declared.event.Seen.{Seen}
 use Rattle.event_csv.specs.declared.fault.LineFault.TheVariants as fault
+use Rattle.event_csv.proofs.EventFacts.{event-text}
+use Rattle.event_csv.proofs.PlainLines.{line_fields-plain, strip-head}
 use Rattle.source_merge.specs.Calls.{MergeCall, after_calls, unmerged}
 use Rattle.source_merge.specs.Merging.{comes_late, next_given, turn_of}
 use Rattle.source_merge.specs.Ranks.{Taken}
+use Rattle.source_merge.specs.Readings.{source_line}
 use Rattle.source_merge.specs.Sources.{watermark}
 use Rattle.source_merge.specs.Turns.{Between, HasFault, Input, IsLate, Over, SourceLine, Stops, Waits, after_turns, before_turns, next_turn, settled_between}
 
@@ -60,9 +69,9 @@ one_file = takes 2 ∷ takes 1 ∷ takes 3 ∷ MergeCall.Gives ∷ MergeCall.End
 an_event_within_the_lateness_comes_in_its_place : given_after 1 2 one_file ≡ seen_at 1 ∷ seen_at 2 ∷ seen_at 3 ∷ []
 an_event_within_the_lateness_comes_in_its_place = refl
 
--- before that nothing below 1 is settled, so nothing at all
-nothing_is_given_above_the_watermark : next_given (after_calls (unmerged 1 2) (takes 2 ∷ takes 1 ∷ takes 3 ∷ [])).now ≡ None
-nothing_is_given_above_the_watermark = refl
+-- before that the watermark is 1, and no event is below it
+nothing_is_given_at_the_watermark : next_given (after_calls (unmerged 1 2) (takes 2 ∷ takes 1 ∷ takes 3 ∷ [])).now ≡ None
+nothing_is_given_at_the_watermark = refl
 
 -- without a lateness the event at 1 is late behind that at 2
 an_event_below_its_file_is_late : comes_late (after_calls (unmerged 1 0) (takes 2 ∷ [])).now 1 ≡ true
@@ -113,6 +122,33 @@ five_turns_end_both_files = refl
 all_events_are_settled_then : events_of (settled_between 0 (after_turns 0 5 two_texts)) ≡ seen_at 1 ∷ seen_at 2 ∷ seen_at 3 ∷ []
 all_events_are_settled_then = refl
 
+-- an empty file ends in its first turn, and holds the other one back no more
+abbrev empty_text : Between
+empty_text = before_turns (file_of [] true ∷ file_of (1 ∷ 4 ∷ []) true ∷ [])
+
+an_empty_file_ends_in_its_first_turn : (after_turns 0 1 empty_text).sources ≡ record { greatest = None; ended = true } ∷ record { greatest = None; ended = false } ∷ []
+an_empty_file_ends_in_its_first_turn = refl
+
+it_holds_nothing_back : events_of (settled_between 0 (after_turns 0 3 empty_text)) ≡ seen_at 1 ∷ []
+it_holds_nothing_back = refl
+
+-- three files: 4 and 9, 2 and 6, and 5; their first turns take 4, 2 and 5, then the second file brings 6, and the first one 9
+abbrev three_texts : Between
+three_texts = before_turns (file_of (4 ∷ 9 ∷ []) true ∷ file_of (2 ∷ 6 ∷ []) true ∷ file_of (5 ∷ []) true ∷ [])
+
+the_least_of_three_bounds_is_the_watermark : events_of (settled_between 0 (after_turns 0 5 three_texts)) ≡ seen_at 2 ∷ seen_at 4 ∷ []
+the_least_of_three_bounds_is_the_watermark = refl
+
+-- then the third file ends, the second one and the first one
+the_least_of_two_is_left : events_of (settled_between 0 (after_turns 0 6 three_texts)) ≡ seen_at 2 ∷ seen_at 4 ∷ seen_at 5 ∷ []
+the_least_of_two_is_left = refl
+
+eight_turns_end_three_files : next_turn 0 (after_turns 0 8 three_texts) ≡ Over
+eight_turns_end_three_files = refl
+
+events_of_three_files_are_settled_in_order : events_of (settled_between 0 (after_turns 0 8 three_texts)) ≡ seen_at 2 ∷ seen_at 4 ∷ seen_at 5 ∷ seen_at 6 ∷ seen_at 9 ∷ []
+events_of_three_files_are_settled_in_order = refl
+
 -- 2, 1 and 3 in one file, with a lateness of 2
 abbrev one_text : Between
 one_text = before_turns (file_of (2 ∷ 1 ∷ 3 ∷ []) true ∷ [])
@@ -137,3 +173,21 @@ a_file_is_waited_for = refl
 -- a line with a fault stops the turns, though other files go on
 it_stops_at_a_fault : next_turn 0 (after_turns 0 1 (before_turns (file_of (1 ∷ []) true ∷ record { left = record { number = 4; found = Err fault.NotUtf8 } ∷ []; whole = false } ∷ []))) ≡ Stops 1 4 (HasFault fault.NotUtf8)
 it_stops_at_a_fault = refl
+
+-- a line that begins with > is no control line: no stream has its first field as its name, though `A` is declared
+abbrev streams : List Entry
+streams = record { name = codes "A"; schema = []; declared = true } ∷ []
+
+-- a short line of text without quotes, line feeds and mark is read by its parts between commas
+read_plainly : (line : List ℕ) → length line ≤ line_limit → IsUtf8 line → (get_or line 0 0 == 239) ≡ false → list_all is_plain line ≡ true → 0 < length line
+    → source_line streams (record { number = 3; bytes = line }) ≡ record { number = 3; found = record_event streams (Some (parts_of line)) }
+read_plainly line short text begins plain some =
+    ap (λ found. record { number = 3; found = found }) (event-text streams line short text ∙ ap (record_event streams) (line_fields-plain line (strip-head line begins) plain some))
+
+a_control_line_names_an_unknown_stream : source_line streams (record { number = 3; bytes = codes ">A,,1" }) ≡ record { number = 3; found = Err fault.UnknownStream }
+unfolding lib.Utf8.encode
+a_control_line_names_an_unknown_stream = read_plainly (codes ">A,,1") (omega arith) (codes ">A,,1", (refl, refl)) refl refl (omega arith)
+
+without_that_sign_it_is_an_event : source_line streams (record { number = 3; bytes = codes "A,,1" }) ≡ record { number = 3; found = Ok (seen_at 1) }
+unfolding lib.Utf8.encode
+without_that_sign_it_is_an_event = read_plainly (codes "A,,1") (omega arith) (codes "A,,1", (refl, refl)) refl refl (omega arith)

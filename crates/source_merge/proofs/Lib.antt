@@ -1,7 +1,10 @@
 pub mod CallLemmas
 pub mod Examples
+pub mod FollowLemmas
+pub mod GrowingLemmas
 pub mod HeapLemmas
 pub mod MergerLemmas
+pub mod PlaceLemmas
 pub mod RankLemmas
 pub mod SourceLemmas
 pub mod StandingLemmas

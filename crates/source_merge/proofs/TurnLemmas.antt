@@ -3,7 +3,7 @@ use Rattle.std.proofs.Common.{◌≡◌, ◌∙◌, sym, ap, refl, subst, ℕ, z
 use Rattle.std.specs.Option.{unwrap_or}
 use Rattle.std.proofs.lemmas.Bool.{le-leb, leb-false, leb-true}
 use Rattle.source_merge.specs.declared.source.Source.{Source}
-use Rattle.source_merge.specs.Sources.{ComesBehind, IsTurn, first_of, is_no_later, turn_from, turn_in}
+use Rattle.source_merge.specs.Sources.{ComesBefore, IsTurn, first_of, is_no_later, turn_from, turn_in}
 use Rattle.source_merge.proofs.SourceLemmas.{turn_is_there}
 
 -- a greatest time is no later than itself
@@ -33,10 +33,10 @@ no_later_through (Some g) (Some h) (Some k) e f = le-leb g k (let le = leb-true 
 abbrev IsTurnFrom : ℕ → List Source → Option (ℕ × Source) → Type 0
 IsTurnFrom from sources None = (place : ℕ) (other : Source) → slice_get sources place ≡ Some other → other.ended ≡ true
 IsTurnFrom from sources (Some turn) =
-    (from ≤ turn.0) × ((place : ℕ) (other : Source) → slice_get sources place ≡ Some other → other.ended ≡ false → ComesBehind turn (from + place, other))
+    (from ≤ turn.0) × ((place : ℕ) (other : Source) → slice_get sources place ≡ Some other → other.ended ≡ false → ComesBefore turn (from + place, other))
 
 -- a file comes behind itself
-behind_itself : (number : ℕ) (source other : Source) → source ≡ other → ComesBehind (number, source) (number + 0, other)
+behind_itself : (number : ℕ) (source other : Source) → source ≡ other → ComesBefore (number, source) (number + 0, other)
 behind_itself number source other same = record {
   no_later = ap (λ s. is_no_later source.greatest s.greatest) (sym same) ∙ no_later_itself source.greatest;
   lower = λ _. omega arith;
@@ -62,15 +62,15 @@ module _ (from : ℕ) (source : Source) (more : List Source) where
       all_ended (suc place) other is = turn place other is
   past_ended (Some next) ended turn = (omega (arith, turn.0), behind)
     where
-      behind : (place : ℕ) (other : Source) → slice_get (source ∷ more) place ≡ Some other → other.ended ≡ false → ComesBehind next (from + place, other)
+      behind : (place : ℕ) (other : Source) → slice_get (source ∷ more) place ≡ Some other → other.ended ≡ false → ComesBefore next (from + place, other)
       behind zero other is going = let same : source ≡ other = ap (λ o. unwrap_or o other) is in false_true other.ended going (ap (λ s. s.ended) (sym same) ∙ ended)
-      behind (suc place) other is going = subst (λ (n : ℕ). ComesBehind next (n, other)) (shift from place) (turn.1 place other is going)
+      behind (suc place) other is going = subst (λ (n : ℕ). ComesBefore next (n, other)) (shift from place) (turn.1 place other is going)
 
   -- it has the turn where all behind it have ended
   alone : source.ended ≡ false → IsTurnFrom (from + 1) more None → IsTurnFrom from (source ∷ more) (Some (from, source))
   alone here turn = (omega arith, behind)
     where
-      behind : (place : ℕ) (other : Source) → slice_get (source ∷ more) place ≡ Some other → other.ended ≡ false → ComesBehind (from, source) (from + place, other)
+      behind : (place : ℕ) (other : Source) → slice_get (source ∷ more) place ≡ Some other → other.ended ≡ false → ComesBefore (from, source) (from + place, other)
       behind zero other is going = behind_itself from source other (ap (λ o. unwrap_or o other) is)
       behind (suc place) other is going = false_true other.ended going (turn place other is)
 
@@ -78,7 +78,7 @@ module _ (from : ℕ) (source : Source) (more : List Source) where
   ahead : (next : ℕ × Source) → is_no_later source.greatest next.1.greatest ≡ true → IsTurnFrom (from + 1) more (Some next) → IsTurnFrom from (source ∷ more) (Some (from, source))
   ahead next first turn = (omega arith, behind)
     where
-      behind : (place : ℕ) (other : Source) → slice_get (source ∷ more) place ≡ Some other → other.ended ≡ false → ComesBehind (from, source) (from + place, other)
+      behind : (place : ℕ) (other : Source) → slice_get (source ∷ more) place ≡ Some other → other.ended ≡ false → ComesBefore (from, source) (from + place, other)
       behind zero other is going = behind_itself from source other (ap (λ o. unwrap_or o other) is)
       behind (suc place) other is going = record {
         no_later = no_later_through source.greatest next.1.greatest other.greatest first (turn.1 place other is going).no_later;
@@ -89,12 +89,12 @@ module _ (from : ℕ) (source : Source) (more : List Source) where
   later_on : (next : ℕ × Source) → is_no_later source.greatest next.1.greatest ≡ false → IsTurnFrom (from + 1) more (Some next) → IsTurnFrom from (source ∷ more) (Some next)
   later_on next later turn = (omega (arith, turn.0), behind)
     where
-      behind : (place : ℕ) (other : Source) → slice_get (source ∷ more) place ≡ Some other → other.ended ≡ false → ComesBehind next (from + place, other)
+      behind : (place : ℕ) (other : Source) → slice_get (source ∷ more) place ≡ Some other → other.ended ≡ false → ComesBefore next (from + place, other)
       behind zero other is going =
           let same : source ≡ other = ap (λ o. unwrap_or o other) is in
           let unless : is_no_later other.greatest next.1.greatest ≡ false = ap (λ s. is_no_later s.greatest next.1.greatest) (sym same) ∙ later in
           record { no_later = later_unless other.greatest next.1.greatest unless; lower = λ no. false_true (is_no_later other.greatest next.1.greatest) unless no }
-      behind (suc place) other is going = subst (λ (n : ℕ). ComesBehind next (n, other)) (shift from place) (turn.1 place other is going)
+      behind (suc place) other is going = subst (λ (n : ℕ). ComesBefore next (n, other)) (shift from place) (turn.1 place other is going)
 
   with_first : (turn : Option (ℕ × Source)) → source.ended ≡ false → IsTurnFrom (from + 1) more turn → IsTurnFrom from (source ∷ more) (first_of from source turn)
   with_first None going turn = alone going turn
@@ -121,7 +121,7 @@ turns_are_the_earliest sources = go (turn_in sources) refl (turn_from_is 0 sourc
     go None is found = found
     go (Some turn) is found =
         let there = turn_is_there sources turn is in
-        (there.0, there.1, λ number other at going. subst (λ (n : ℕ). ComesBehind turn (n, other)) (plain number) (found.1 number other at going))
+        (there.0, there.1, λ number other at going. subst (λ (n : ℕ). ComesBefore turn (n, other)) (plain number) (found.1 number other at going))
       where
         plain : (n : ℕ) → 0 + n ≡ n
         plain n = omega arith

@@ -6,3 +6,4 @@ pub mod Readings
 pub mod Sources
 pub mod Standing
 pub mod Turns
+pub mod Growing

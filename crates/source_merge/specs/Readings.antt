@@ -1,4 +1,4 @@
--- The lines of an event file as they are read: no control line is among them.
+-- The lines of an event file as they are read: a line that begins with > is read as an event line, whose stream is unknown. No public clause cites this module yet.
 use Rattle.std.specs.Prelude.{ℕ, Bool, List, map}
 use Rattle.stream_schema.specs.Streams.{Entry}
 use Rattle.event_csv.specs.Event.{event}

@@ -22,23 +22,23 @@ abbrev pub turn_from : ℕ → List Source → Option (ℕ × Source)
 turn_from number [] = None
 turn_from number (source ∷ more) = if source.ended then turn_from (number + 1) more else first_of number source (turn_from (number + 1) more)
 
--- the file whose turn it is, by its number; none where all have ended
+-- the file whose turn it is, by its number; none where all have ended; `TurnsAreTheEarliest` says in a sentence which one it is
 abbrev pub turn_in : List Source → Option (ℕ × Source)
 turn_in sources = turn_from 0 sources
 
--- a file that hasn't ended comes no earlier than another: its greatest time so far is no less, and where it is the same its number is higher
-pub record ComesBehind (first other : ℕ × Source) : Type 0 where
+-- the first file has its turn before the other: its greatest time so far is no later, and where both are as far its number is no higher
+pub record ComesBefore (first other : ℕ × Source) : Type 0 where
   pub no_later : is_no_later first.1.greatest other.1.greatest ≡ true
   pub lower : is_no_later other.1.greatest first.1.greatest ≡ true → first.0 ≤ other.0
 
--- the turn is that of a file which stands at its number and hasn't ended, and behind which all others come that haven't; or all have ended
+-- the turn is that of a file which stands at its number and hasn't ended, and which comes before all that haven't; or all have ended
 abbrev pub IsTurn : List Source → Option (ℕ × Source) → Type 0
 IsTurn sources None = (number : ℕ) (other : Source) → slice_get sources number ≡ Some other → other.ended ≡ true
 IsTurn sources (Some turn) =
     (slice_get sources turn.0 ≡ Some turn.1) × (turn.1.ended ≡ false)
-    × ((number : ℕ) (other : Source) → slice_get sources number ≡ Some other → other.ended ≡ false → ComesBehind turn (number, other))
+    × ((number : ℕ) (other : Source) → slice_get sources number ≡ Some other → other.ended ≡ false → ComesBefore turn (number, other))
 
--- whose turn it is
+-- the file whose turn it is, is one before which no other has its turn
 abbrev pub TurnsAreTheEarliest : Type 0
 TurnsAreTheEarliest = (sources : List Source) → IsTurn sources (turn_in sources)
 

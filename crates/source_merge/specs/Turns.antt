@@ -66,14 +66,27 @@ turn_of_input slack b turn input = by input.left
     by [] = if input.whole then Goes (record { sources = with_end b.sources turn.0 turn.1; inputs = b.inputs; taken = b.taken }) else Waits turn.0
     by (line ∷ more) = turn_of_line slack b turn (record { left = more; whole = input.whole }) line
 
--- the turn of a file that may be none
+-- the turn of a file that may be none; one without an input is waited for, as one of which no line is there yet
 abbrev pub turn_at : ℕ → Between → Option (ℕ × Source) → Turn
 turn_at slack b None = Over
 turn_at slack b (Some turn) = of_input (slice_get b.inputs turn.0)
   where
     of_input : Option Input → Turn
-    of_input None = Over
+    of_input None = Waits turn.0
     of_input (Some input) = turn_of_input slack b turn input
+
+-- the lines left of the file that has this turn
+abbrev pub lines_left : Between → Option (ℕ × Source) → List SourceLine
+lines_left b None = []
+lines_left b (Some turn) = of_input (slice_get b.inputs turn.0)
+  where
+    of_input : Option Input → List SourceLine
+    of_input None = []
+    of_input (Some input) = input.left
+
+-- the lines left of the file whose turn it is
+abbrev pub next_lines : Between → List SourceLine
+next_lines b = lines_left b (turn_in b.sources)
 
 -- the next turn
 abbrev pub next_turn : ℕ → Between → Turn

@@ -14,7 +14,8 @@ mod source;
 pub use fault::TakeFault;
 pub use laws::{
     given_events_are_a_front_of_the_settled_ones, merged_events_are_those_taken,
-    merges_stand_to_their_turns, settled_events_are_given_once_and_in_order,
-    turns_are_those_of_the_earliest_files,
+    merges_follow_the_turns, merges_stand_to_their_turns,
+    settled_events_are_given_once_and_in_order, turns_are_those_of_the_earliest_files,
+    turns_end_in_one_way, turns_stay_as_files_go_on, turns_take_lines_in_their_order,
 };
 pub use merger::Merger;
