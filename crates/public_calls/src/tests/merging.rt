@@ -1,8 +1,9 @@
 //! Which states a removed line takes away, and which numbers states have.
 ghost use Rattle.std.specs.Prelude.{◌≡◌, IfOk, length};
+ghost use Rattle.prefix_merge.specs.Merging.{HasEnd};
 
 use automaton::{End, Hop, Hops, Line, Wait};
-use event_types::{Cmp, List, Memory, Value};
+use event_types::{Cmp, List, Memory, Numbers, Value};
 use long_lists::LongList;
 use prefix_merge::{Left, Merged};
 use scalar_expr::{Pred, Scalar, normal};
@@ -80,6 +81,15 @@ fn removed_line_takes_away_the_states_that_it_alone_uses(rt: HostRuntime) -> Res
     Ok(())
 }
 
+// A line of the root 7 comes as the end 0, which none has. Gives the states that came.
+fn come(alloc: Global, merged: &mut Merged) -> Result<Numbers, Memory>
+    requires { ¬ HasEnd merged.old 0 }
+{
+    let mut came = List::new(alloc);
+    merged.insert(&line(alloc, 7, List::new(alloc)), 0, Some(4), &mut came)?;
+    Ok(came)
+}
+
 #[test]
 fn freed_number_is_taken_again(rt: HostRuntime) -> Result<(), Fail> {
     let alloc = rt.alloc();
@@ -89,9 +99,9 @@ fn freed_number_is_taken_again(rt: HostRuntime) -> Result<(), Fail> {
         line(alloc, 6, List::new(alloc)),
     )?;
     let mut merged = Merged::of(alloc, &lines)?;
+    drop(lines);
     merged.remove(0, &mut Left::new(alloc));
-    let mut came = List::new(alloc);
-    merged.insert(&line(alloc, 7, List::new(alloc)), 0, Some(4), &mut came)?;
+    let came = come(alloc, &mut merged)?;
     assert_eq!(rt; came.as_slice(), [0].as_slice());
     let network = merged.network();
     assert_eq!(rt; network.states(), 2);

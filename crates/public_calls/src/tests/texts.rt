@@ -1,6 +1,6 @@
-//! A statement's canonical line, the text of one query, a result line that is read as an event again, and a stream that is retired.
+//! A statement's canonical line, a result line that is read as an event again, and a stream that is retired.
 use cel_lexer::lex;
-use cel_parser::{SyntaxFault, parse, parse_one};
+use cel_parser::parse;
 use cel_print::print_one;
 use event_csv::{Feed, Got, read_event};
 use event_types::{Kind, Tuple};
@@ -18,25 +18,6 @@ fn one_statement_is_printed(rt: HostRuntime) -> Result<(), Fail> {
     assert!(rt; file.size() == 2);
     let line = print_one(alloc, &file, 1)?;
     assert_eq!(rt; line.as_str(), "SELECT * FROM S PUBLISH Q;\n");
-    Ok(())
-}
-
-// The line of the text's one query, or why it is not one.
-fn one_query(alloc: Global, text: &[u8]) -> Result<Result<u64, SyntaxFault>, Fail> {
-    let tokens = lex(alloc, text)?;
-    Ok(parse_one(alloc, &tokens).map(|one| one.line))
-}
-
-#[test]
-fn second_query_is_one_too_many(rt: HostRuntime) -> Result<(), Fail> {
-    let alloc = rt.alloc();
-    let one = one_query(alloc, b"\nSELECT * FROM S PUBLISH Q;")?;
-    assert!(rt; matches!(one, Ok(2)));
-    let two = one_query(
-        alloc,
-        b"SELECT * FROM S PUBLISH Q;\nSELECT * FROM S PUBLISH R;",
-    )?;
-    assert!(rt; matches!(two, Err(SyntaxFault::BadStatement { number: 2, line: 2 })));
     Ok(())
 }
 

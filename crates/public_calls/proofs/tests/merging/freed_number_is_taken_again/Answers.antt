@@ -6,5 +6,5 @@ pub remove-requires : goal.remove-requires
 remove-requires g c = (c.in_ok-merged.ensures.ends 0).1 (omega (arith, c.in_ok-lines.ensures))
 
 -- and then none
-pub insert-requires : goal.insert-requires
-insert-requires g c = λ has. ((c.remove.ensures.removed.ends 0).0 has).1 refl
+pub come-requires : goal.come-requires
+come-requires g c = λ has. ((c.remove.ensures.removed.ends 0).0 has).1 refl
